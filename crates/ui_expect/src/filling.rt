@@ -2,17 +2,16 @@
 
 ghost use Rattle.shell_serve.specs.Spans.{EndsWith};
 
-use dbg_command::SessionView;
 use shell_io::{Sink, Source};
 use shell_print::{ServeFault, Served, tell_too_long};
 use std::alloc::{AllocError, Global};
 use ui_repl::{
-    ExpandedLine, LineFault, OpenSession, Opening, PlayedSession, WrittenProgram, open, wanted,
-    write_text,
+    AnsweredLine, ExpandedLine, LineFault, OpenSession, Opening, PlayedSession, WrittenProgram,
+    open, wanted, write_text,
 };
 use ui_session::Typed;
 use ui_text::Notes;
-use ui_view::{Echo, Explainer, Told};
+use ui_view::{Echo, Explainer};
 
 // A session with its replies, as far as it was played.
 #[derive(Drop)]
@@ -51,25 +50,17 @@ impl Explainer<Option<LineFault>> for Filler {
         true
     }
 
-    fn hear(&mut self, _alloc: Global, line: &ExpandedLine<'_>) -> Result<Echo, AllocError> {
+    fn hear(&mut self, line: &ExpandedLine<'_>) -> Result<Echo, AllocError> {
         if line.is_first {
             self.begin(line.written)?;
         }
         Ok(Echo::Nothing)
     }
 
-    fn explain(
-        &mut self,
-        _alloc: Global,
-        _view: SessionView<'_>,
-        _line: &ExpandedLine<'_>,
-        _told: Told<'_>,
-        reply: &[u8],
-        _notes: &mut Notes,
-    ) -> Result<(), AllocError> {
+    fn explain(&mut self, line: &AnsweredLine<'_>, _notes: &mut Notes) -> Result<(), AllocError> {
         self.reply.clear();
         self.is_answered = true;
-        self.reply.extend_from_slice(reply)
+        self.reply.extend_from_slice(line.reply)
     }
 }
 

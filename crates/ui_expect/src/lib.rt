@@ -2,6 +2,7 @@
 #![tactic(auto)]
 
 mod comparing;
+mod explanation;
 mod filling;
 mod outcome;
 mod replaying;

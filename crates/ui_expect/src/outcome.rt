@@ -4,6 +4,7 @@ use dbg_base::{Choice, Done, Name, Pid, Said};
 use dbg_command::SessionView;
 use event_rows::{Event, Exchange};
 use std::alloc::{AllocError, Global};
+use ui_repl::AnsweredLine;
 use ui_text::ProgramText;
 use ui_view::Told;
 
@@ -64,22 +65,20 @@ impl Outcome {
     pub(crate) fn new(
         alloc: Global,
         number: usize,
-        line: &[u8],
         text: &ProgramText,
-        view: SessionView<'_>,
-        told: Told<'_>,
-        reply: &[u8],
+        line: &AnsweredLine<'_>,
     ) -> Result<Outcome, AllocError> {
+        let told = line.told;
         let mut outcome = Outcome {
             number,
-            line: Vec::from_slice(alloc, line)?,
+            line: Vec::from_slice(alloc, line.given.written)?,
             reply: Vec::new(alloc),
             message: None,
             halted: None,
             is_refused: matches!(told, Told::Refused(_) | Told::Said(_, Said::Refused(_), _)),
         };
         if let Told::Said(_, Said::Accepted(accepted), _) = told {
-            outcome.message = message_of(view, &accepted.done);
+            outcome.message = message_of(line.view, &accepted.done);
             outcome.halted = accepted.halted;
             if let Some((pid, choice)) = event_of(&accepted.done) {
                 let label = text.label(pid, choice);
@@ -89,7 +88,7 @@ impl Outcome {
                 }
             }
         }
-        outcome.reply.extend_from_slice(reply)?;
+        outcome.reply.extend_from_slice(line.reply)?;
         Ok(outcome)
     }
 

@@ -2,25 +2,25 @@
 
 ghost use Rattle.shell_serve.specs.Spans.{EndsWith};
 
+use crate::explanation::LastExplanation;
 use crate::outcome::Outcome;
-use crate::reports::{begin_report, put_explanation};
+use crate::reports::{begin_refusal, begin_report, tell_long_session};
 use dbg_base::Call;
 use dbg_command::SessionView;
 use proc_tree::Program;
 use shell_io::{Noted, Sink, Source};
-use shell_print::{ServeFault, Served, tell_too_long, write_whole};
+use shell_print::{ServeFault, Served, tell_too_long};
 use shell_serve::{Input, read_program_text, text_alone};
 use std::alloc::{AllocError, Global};
 use std::io::Read;
 use std::{io, mem};
-use ui_diagram::WIDTH;
 use ui_repl::{
-    ExpandedLine, LineFault, OpenSession, Opening, PlayedSession, ReadText, Sentences,
+    AnsweredLine, ExpandedLine, LineFault, OpenSession, Opening, PlayedSession, ReadText,
     WrittenProgram, open, read_text, refuse, write_notes, write_text,
 };
 use ui_session::{Room, Typed};
 use ui_text::{Notes, Part};
-use ui_view::{Echo, Explainer, Told};
+use ui_view::{Echo, Explainer};
 
 /// How a session went on an edited program.
 #[derive(Clone, Copy, Debug, PartialEq, Eq)]
@@ -63,10 +63,9 @@ struct Replayer<'a> {
     alloc: Global,
     names: ReplayNames<'a>,
     written: &'a WrittenProgram,
-    sentences: Sentences<'a>,
     // The number of the present line in the session, and the explanation of its reply.
     number: usize,
-    notes: Notes,
+    explanation: LastExplanation<'a>,
     outcomes: Vec<Outcome>,
     // What was said before, if the session was played before.
     before: Option<Vec<Outcome>>,
@@ -80,9 +79,8 @@ impl Drop for Replayer<'_> {
             alloc: _,
             names: _,
             written: _,
-            sentences: _,
             number: _,
-            notes: _,
+            explanation: _,
             outcomes: _,
             before: _,
             report: _,
@@ -130,9 +128,8 @@ impl<'a> Replayer<'a> {
             alloc,
             names,
             written,
-            sentences: Sentences::new(alloc, written, WIDTH as usize),
             number,
-            notes: Notes::new(alloc),
+            explanation: LastExplanation::new(alloc, written),
             outcomes: Vec::new(alloc),
             before,
             report: None,
@@ -149,31 +146,26 @@ impl<'a> Replayer<'a> {
         let mut notes = report_of(self.alloc, self.names.session, now, how)?;
         put_outcome(&mut notes, "before: ", before)?;
         put_outcome(&mut notes, "now:    ", now)?;
-        put_explanation(&mut notes, &self.notes)?;
+        self.explanation.put(&mut notes)?;
         Ok(notes)
     }
 
     // Reports that a line gives one command more than before.
     fn tell_another(&self, now: &Outcome) -> Result<Notes, AllocError> {
-        let mut notes = report_of(
-            self.alloc,
-            self.names.session,
-            now,
-            "it gives one more command now",
-        )?;
-        put_outcome(&mut notes, "now:    ", now)?;
-        Ok(notes)
+        let how = "it gives one more command now";
+        self.tell_outcome(how, "now:    ", now)
     }
 
     // Reports that a line gives one command less than before.
     fn tell_missing(&self, before: &Outcome) -> Result<Notes, AllocError> {
-        let mut notes = report_of(
-            self.alloc,
-            self.names.session,
-            before,
-            "it gives one command less now",
-        )?;
-        put_outcome(&mut notes, "before: ", before)?;
+        let how = "it gives one command less now";
+        self.tell_outcome(how, "before: ", before)
+    }
+
+    // Reports what is said to a line that gives another number of commands, which was so before or is so now.
+    fn tell_outcome(&self, how: &str, when: &str, outcome: &Outcome) -> Result<Notes, AllocError> {
+        let mut notes = report_of(self.alloc, self.names.session, outcome, how)?;
+        put_outcome(&mut notes, when, outcome)?;
         Ok(notes)
     }
 
@@ -218,34 +210,22 @@ impl Explainer<Option<LineFault>> for Replayer<'_> {
         true
     }
 
-    fn hear(&mut self, alloc: Global, line: &ExpandedLine<'_>) -> Result<Echo, AllocError> {
-        let _echo = self.sentences.hear(alloc, line)?;
+    fn hear(&mut self, line: &ExpandedLine<'_>) -> Result<Echo, AllocError> {
         if line.is_first {
             self.number = self.number.saturating_add(1);
         }
-        self.notes.truncate(0);
+        self.explanation.forget();
         Ok(Echo::Nothing)
     }
 
-    fn prepare(&mut self, alloc: Global, view: SessionView<'_>, call: &Call, _notes: &mut Notes) {
-        let notes = &mut self.notes;
-        self.sentences.prepare(alloc, view, call, notes);
+    fn prepare(&mut self, view: SessionView<'_>, call: &Call, _notes: &mut Notes) {
+        self.explanation.prepare(view, call);
     }
 
-    fn explain(
-        &mut self,
-        alloc: Global,
-        view: SessionView<'_>,
-        line: &ExpandedLine<'_>,
-        told: Told<'_>,
-        reply: &[u8],
-        _notes: &mut Notes,
-    ) -> Result<(), AllocError> {
-        let notes = &mut self.notes;
-        self.sentences
-            .explain(alloc, view, line, told, reply, notes)?;
+    fn explain(&mut self, line: &AnsweredLine<'_>, _notes: &mut Notes) -> Result<(), AllocError> {
+        self.explanation.explain(line)?;
         let text = self.written.text();
-        let now = Outcome::new(alloc, self.number, line.written, text, view, told, reply)?;
+        let now = Outcome::new(self.alloc, self.number, text, line)?;
         if self.report.is_none() {
             self.report = self.compare(&now)?;
         }
@@ -273,8 +253,7 @@ fn replay_open<'a, R: Source + Typed>(
         lines,
     } = session.play_unheard(alloc, written, None, first, reader)?;
     if served == Served::TooLong {
-        let mut notes = Notes::new(alloc);
-        notes.say_with("{}: input too long", &[Part::Text(names.session)])?;
+        let notes = tell_long_session(alloc, names.session)?;
         return Ok((notes, Replayed::Unplayed(served)));
     }
     let (mut first, lines) = (explainer, lines);
@@ -286,12 +265,6 @@ fn replay_open<'a, R: Source + Typed>(
     let session = OpenSession { program, input };
     let mut played = session.play_unheard(alloc, edited, None, second, &mut again)?;
     played.explainer.result()
-}
-
-// Begins the report that the text of this file is refused.
-fn begin_refusal<W: Sink>(name: &str, writer: &mut W) -> Result<(), ServeFault> {
-    write_whole(writer, name.as_bytes())?;
-    write_whole(writer, b": ")
 }
 
 // Plays a session on an edited program.

@@ -1,7 +1,9 @@
-//! What reports about a line of a session have in common.
+//! What reports about a session have in common.
 
+use shell_io::Sink;
 use shell_parse::without_return;
-use std::alloc::AllocError;
+use shell_print::{ServeFault, write_whole};
+use std::alloc::{AllocError, Global};
 use ui_text::{Notes, Part};
 
 /// Begins a report with the name of the session, and a line with its number.
@@ -21,11 +23,15 @@ pub(crate) fn begin_report<'x>(
     )
 }
 
-/// Appends an explanation to a report, further to the right.
-pub(crate) fn put_explanation(notes: &mut Notes, explanation: &Notes) -> Result<(), AllocError> {
-    for number in 0..explanation.count() {
-        let line = Part::Bytes(explanation.line(number).bytes);
-        notes.say_with("    {}", &[line])?;
-    }
-    Ok(())
+/// Reports that the session of this name is too long.
+pub(crate) fn tell_long_session(alloc: Global, name: &str) -> Result<Notes, AllocError> {
+    let mut notes = Notes::new(alloc);
+    notes.say_with("{}: input too long", &[Part::Text(name)])?;
+    Ok(notes)
+}
+
+/// Begins the report that the text of this file is refused.
+pub(crate) fn begin_refusal<W: Sink>(name: &str, writer: &mut W) -> Result<(), ServeFault> {
+    write_whole(writer, name.as_bytes())?;
+    write_whole(writer, b": ")
 }

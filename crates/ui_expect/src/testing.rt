@@ -3,20 +3,20 @@
 ghost use Rattle.shell_serve.specs.Spans.{EndsWith};
 
 use crate::comparing::{PlayedLine, compare};
-use crate::reports::{begin_report, put_explanation};
+use crate::explanation::LastExplanation;
+use crate::reports::{begin_refusal, begin_report, tell_long_session};
 use dbg_base::Call;
 use dbg_command::SessionView;
 use shell_io::{Noted, Sink, Source};
-use shell_print::{ServeFault, Served, write_whole};
+use shell_print::{ServeFault, Served};
 use std::alloc::{AllocError, Global};
-use ui_diagram::WIDTH;
 use ui_repl::{
-    ExpandedLine, LineFault, LineWords, OpenSession, Opening, PlayedSession, Sentences,
+    AnsweredLine, ExpandedLine, LineFault, LineWords, OpenSession, Opening, PlayedSession,
     WrittenProgram, open, wanted, write_notes, write_text,
 };
 use ui_session::{Room, Typed};
 use ui_text::{Notes, Part};
-use ui_view::{Echo, Explainer, Told};
+use ui_view::{Echo, Explainer};
 
 /// The result of a session in which a line `> REPLY` gives the expected reply to the command line before it.
 #[derive(Clone, Copy, Debug, PartialEq, Eq)]
@@ -29,18 +29,17 @@ pub enum Tested {
     Unchecked,
 }
 
-// The last line that is no remark: its number in the input, its text, its last reply, and the explanation of that.
+// The last line that is no remark: its number in the input, its text, and its last reply.
 #[derive(Drop)]
 struct AskedLine {
     number: usize,
     text: Vec<u8>,
     reply: Option<Vec<u8>>,
-    notes: Notes,
 }
 
 // Compares the replies of a session with the expected ones, line by line.
 struct Tester<'a> {
-    sentences: Sentences<'a>,
+    explanation: LastExplanation<'a>,
     alloc: Global,
     name: &'a str,
     // The number of the present line in the input.
@@ -54,7 +53,7 @@ struct Tester<'a> {
 impl Drop for Tester<'_> {
     fn drop(self) {
         let Tester {
-            sentences: _,
+            explanation: _,
             alloc: _,
             name: _,
             number: _,
@@ -69,7 +68,7 @@ impl<'a> Tester<'a> {
     // Nothing was compared yet, and so many lines were read.
     fn new(alloc: Global, name: &'a str, written: &'a WrittenProgram, number: usize) -> Tester<'a> {
         Tester {
-            sentences: Sentences::new(alloc, written, WIDTH as usize),
+            explanation: LastExplanation::new(alloc, written),
             alloc,
             name,
             number,
@@ -77,7 +76,6 @@ impl<'a> Tester<'a> {
                 number,
                 text: Vec::new(alloc),
                 reply: None,
-                notes: Notes::new(alloc),
             },
             lines: Vec::new(alloc),
             report: None,
@@ -91,7 +89,7 @@ impl<'a> Tester<'a> {
         begin_report(&mut notes, self.name, number, line)?;
         notes.say_with("  expected: {}", &[Part::Bytes(wanted)])?;
         notes.say_with("  reply:    {}", &[Part::Bytes(reply)])?;
-        put_explanation(&mut notes, &self.asked.notes)?;
+        self.explanation.put(&mut notes)?;
         Ok(notes)
     }
 
@@ -141,7 +139,7 @@ impl<'a> Tester<'a> {
         self.asked.number = self.number;
         self.asked.text = Vec::from_slice(self.alloc, line)?;
         self.asked.reply = None;
-        self.asked.notes.truncate(0);
+        self.explanation.forget();
         Ok(self.lines.push(PlayedLine::Unanswered)?)
     }
 
@@ -168,34 +166,22 @@ impl Explainer<Option<LineFault>> for Tester<'_> {
         true
     }
 
-    fn hear(&mut self, alloc: Global, line: &ExpandedLine<'_>) -> Result<Echo, AllocError> {
-        let _echo = self.sentences.hear(alloc, line)?;
+    fn hear(&mut self, line: &ExpandedLine<'_>) -> Result<Echo, AllocError> {
         if line.is_first {
             self.begin(line.written)?;
         } else {
-            self.asked.notes.truncate(0);
+            self.explanation.forget();
         }
         Ok(Echo::Nothing)
     }
 
-    fn prepare(&mut self, alloc: Global, view: SessionView<'_>, call: &Call, _notes: &mut Notes) {
-        let notes = &mut self.asked.notes;
-        self.sentences.prepare(alloc, view, call, notes);
+    fn prepare(&mut self, view: SessionView<'_>, call: &Call, _notes: &mut Notes) {
+        self.explanation.prepare(view, call);
     }
 
-    fn explain(
-        &mut self,
-        alloc: Global,
-        view: SessionView<'_>,
-        line: &ExpandedLine<'_>,
-        told: Told<'_>,
-        reply: &[u8],
-        _notes: &mut Notes,
-    ) -> Result<(), AllocError> {
-        self.asked.reply = Some(Vec::from_slice(alloc, reply)?);
-        let notes = &mut self.asked.notes;
-        self.sentences
-            .explain(alloc, view, line, told, reply, notes)
+    fn explain(&mut self, line: &AnsweredLine<'_>, _notes: &mut Notes) -> Result<(), AllocError> {
+        self.asked.reply = Some(Vec::from_slice(self.alloc, line.reply)?);
+        self.explanation.explain(line)
     }
 }
 
@@ -220,9 +206,7 @@ fn test_open<'a, R: Source + Typed>(
         tester.begin(lines.input.line(span))?;
     }
     if served == Served::TooLong {
-        let mut notes = Notes::new(alloc);
-        notes.say_with("{}: input too long", &[Part::Text(name)])?;
-        return Ok((notes, Tested::Failed));
+        return Ok((tell_long_session(alloc, name)?, Tested::Failed));
     }
     tester.result()
 }
@@ -246,8 +230,7 @@ pub fn test_session<R: Source + Typed, W: Sink>(
         }
         Opening::Refused(told) => {
             let _refused = told?;
-            write_whole(writer, name.as_bytes())?;
-            write_whole(writer, b": ")?;
+            begin_refusal(name, writer)?;
             write_text(refusal.device().text(), writer)?;
             Ok(Tested::Failed)
         }

@@ -159,7 +159,6 @@ impl ExplainedSession<'_> {
     /// Says what an accepted command did.
     pub fn tell_reply(
         &self,
-        alloc: Global,
         notes: &mut Notes,
         before: &Before,
         call: &Call,
@@ -168,13 +167,13 @@ impl ExplainedSession<'_> {
         self.tell_done(notes, before, call, &reply.done)?;
         if let Call::Give(Plan::Break(name, _)) = call {
             if reply.halted != Some(*name) {
-                self.view.tell_breakpoint(alloc, notes, *name)?;
+                self.view.tell_breakpoint(notes, *name)?;
             }
         }
         match reply.halted {
             Some(name) => {
-                self.tell_halt(alloc, notes, name)?;
-                self.view.tell_continuing(alloc, notes, name)
+                self.tell_halt(notes, name)?;
+                self.view.tell_continuing(notes, name)
             }
             None => Ok(()),
         }

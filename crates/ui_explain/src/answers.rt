@@ -119,7 +119,6 @@ impl ExplainedSession<'_> {
     // Says why the part of a process does not hold yet, and which of its commands can fire now.
     fn tell_further(
         &self,
-        alloc: Global,
         notes: &mut Notes,
         detector: &Detector,
         pid: Pid,
@@ -128,7 +127,7 @@ impl ExplainedSession<'_> {
         let mut fires = false;
         self.view.tell_not_yet(notes, detector, pid)?;
         for number in 0..self.view.session.program.commands(pid) {
-            if scope.fires(alloc, self.view.session.world, Choice(number))? {
+            if scope.fires(notes.alloc(), self.view.session.world, Choice(number))? {
                 let word = if fires { ", " } else { "; it can now fire " };
                 notes.add(word)?;
                 scope.put_command(notes, Choice(number))?;
@@ -175,16 +174,11 @@ impl ExplainedSession<'_> {
     /// Explains the answer to a query. For `why`, says how the search for the cut went, which parts do not hold yet, which commands of
     /// these processes can fire now, and which parts held too early. For `breaks`, shows the predicates. For `can`, says what prevents the
     /// undo.
-    pub fn tell_answer(
-        &self,
-        alloc: Global,
-        notes: &mut Notes,
-        call: &Call,
-    ) -> Result<(), Refusal> {
+    pub fn tell_answer(&self, notes: &mut Notes, call: &Call) -> Result<(), Refusal> {
         match call {
-            Call::Ask(Query::Why(name)) => self.tell_search(alloc, notes, *name),
+            Call::Ask(Query::Why(name)) => self.tell_search(notes, *name),
             Call::Ask(Query::CutOf(name)) => Ok(self.tell_cut_of(notes, *name)?),
-            Call::Ask(Query::Breaks) => self.tell_all_breakpoints(alloc, notes),
+            Call::Ask(Query::Breaks) => self.tell_all_breakpoints(notes),
             Call::Ask(Query::Can(pid)) if pid.0 < self.view.session.program.processes() => {
                 match self.view.session.world.can_undo(*pid) {
                     Err(Refusal::Consequence(receiver)) => {
@@ -198,19 +192,23 @@ impl ExplainedSession<'_> {
     }
 
     // Says how the search for a breakpoint's cut went.
-    fn tell_search(&self, alloc: Global, notes: &mut Notes, name: Name) -> Result<(), Refusal> {
+    fn tell_search(&self, notes: &mut Notes, name: Name) -> Result<(), Refusal> {
         let Some(detector) = self.view.detector_of(name) else {
             return Ok(());
         };
-        let rows = ruled_out(alloc, detector.why(), self.view.session.program.processes())?;
+        let rows = ruled_out(
+            notes.alloc(),
+            detector.why(),
+            self.view.session.program.processes(),
+        )?;
         self.tell_ruled_out(notes, rows.as_slice())?;
         if let Some(cut) = detector.cut() {
             notes.say("what is left is the earliest state:")?;
             return Ok(self.tell_cut_state(notes, detector, cut)?);
         }
-        let past = self.view.past_processes(alloc, detector)?;
+        let past = self.view.past_processes(notes.alloc(), detector)?;
         for pid in &past {
-            self.tell_further(alloc, notes, detector, *pid)?;
+            self.tell_further(notes, detector, *pid)?;
         }
         for pid in &past {
             self.tell_cause(notes, detector, *pid, rows.get(pid.0 as usize))?;

@@ -20,12 +20,7 @@ impl ExplainedSession<'_> {
 
     /// Says that a breakpoint halts the session, what its predicate is, and what the earliest global state is in which it holds. Then shows
     /// the events up to there.
-    pub(crate) fn tell_halt(
-        &self,
-        alloc: Global,
-        notes: &mut Notes,
-        name: Name,
-    ) -> Result<(), AllocError> {
+    pub(crate) fn tell_halt(&self, notes: &mut Notes, name: Name) -> Result<(), AllocError> {
         let Some(detector) = self.view.detector_of(name) else {
             return Ok(());
         };
@@ -36,7 +31,7 @@ impl ExplainedSession<'_> {
         match detector.cut() {
             Some(cut) => {
                 self.tell_cut_state(notes, detector, cut)?;
-                self.tell_depths(alloc, notes, detector, cut)
+                self.tell_depths(notes, detector, cut)
             }
             None => Ok(()),
         }
@@ -64,12 +59,8 @@ impl ExplainedSession<'_> {
     }
 
     /// Says of all breakpoints what their predicates are, and which of them have cuts.
-    pub(crate) fn tell_all_breakpoints(
-        &self,
-        alloc: Global,
-        notes: &mut Notes,
-    ) -> Result<(), Refusal> {
-        let marks = self.view.session.book.list(alloc)?;
+    pub(crate) fn tell_all_breakpoints(&self, notes: &mut Notes) -> Result<(), Refusal> {
+        let marks = self.view.session.book.list(notes.alloc())?;
         for (name, is_armed) in marks.items() {
             self.tell_predicate_of(notes, *name, *is_armed)?;
         }

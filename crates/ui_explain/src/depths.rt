@@ -163,7 +163,6 @@ impl ExplainedSession<'_> {
     /// the last columns only, or nothing.
     pub(crate) fn tell_depths(
         &self,
-        alloc: Global,
         notes: &mut Notes,
         detector: &Detector,
         cut: &Cut,
@@ -177,7 +176,7 @@ impl ExplainedSession<'_> {
         if events == 0 || events > EVENTS || processes < 2 {
             return Ok(());
         }
-        let depths = Depths::of(alloc, self.view.session.world, cut, processes)?;
+        let depths = Depths::of(notes.alloc(), self.view.session.world, cut, processes)?;
         let last = depths.last();
         let columns = DepthColumns {
             begin: self.view.text.longest_name().saturating_add(2),

@@ -30,23 +30,23 @@ impl ExplainedSession<'_> {
     }
 
     // Says which commands of a process can fire, and returns whether there is one.
-    fn tell_firing(&self, alloc: Global, notes: &mut Notes, pid: Pid) -> Result<bool, Refusal> {
+    fn tell_firing(&self, notes: &mut Notes, pid: Pid) -> Result<bool, Refusal> {
         let scope = self.view.scope(pid);
         let mut any = false;
         for number in 0..self.view.session.program.commands(pid) {
             let choice = Choice(number);
-            if scope.fires(alloc, self.view.session.world, choice)? {
+            if scope.fires(notes.alloc(), self.view.session.world, choice)? {
                 any = true;
                 notes.say_with("{}: ", &[scope.name()])?;
                 scope.put_command(notes, choice)?;
-                scope.put_text(alloc, notes, choice)?;
+                scope.put_text(notes, choice)?;
             }
         }
         Ok(any)
     }
 
     // Says that a breakpoint halts the session, if one does, and what `pass` would do.
-    fn tell_halted(&self, alloc: Global, notes: &mut Notes) -> Result<(), Refusal> {
+    fn tell_halted(&self, notes: &mut Notes) -> Result<(), Refusal> {
         let Some(name) = self.view.session.book.halted() else {
             return Ok(());
         };
@@ -54,7 +54,7 @@ impl ExplainedSession<'_> {
             "the breakpoint {} halts the session: `pass` ",
             &[Part::Name(name)],
         )?;
-        match self.view.next_halting(alloc, name)? {
+        match self.view.next_halting(notes.alloc(), name)? {
             Some(next) => notes.add_with(
                 "disarms it, and then the breakpoint {} does",
                 &[Part::Name(next)],
@@ -66,50 +66,44 @@ impl ExplainedSession<'_> {
 
     /// Says which commands can fire in the present state, or that none can: those of the process of this name, or of all processes if the
     /// name is empty.
-    pub fn tell_on(&self, alloc: Global, notes: &mut Notes, word: &[u8]) -> Result<(), Refusal> {
+    pub fn tell_on(&self, notes: &mut Notes, word: &[u8]) -> Result<(), Refusal> {
         let Some((from, to)) = self.processes_named(notes, word)? else {
             return Ok(());
         };
         let mut any = false;
         for p in from..to {
-            any = self.tell_firing(alloc, notes, Pid(p))? || any;
+            any = self.tell_firing(notes, Pid(p))? || any;
         }
         if !any && word.is_empty() {
             notes.say("no command of any process can fire")?;
         } else if !any {
             notes.say_with("no command of {} can fire", &[Part::Bytes(word)])?;
         }
-        self.tell_halted(alloc, notes)
+        self.tell_halted(notes)
     }
 
     // Shows a command, and says what prevents it from firing.
-    fn tell_command(
-        &self,
-        alloc: Global,
-        notes: &mut Notes,
-        pid: Pid,
-        choice: Choice,
-    ) -> Result<(), Refusal> {
+    fn tell_command(&self, notes: &mut Notes, pid: Pid, choice: Choice) -> Result<(), Refusal> {
         let scope = self.view.scope(pid);
         notes.say_with("{}: ", &[scope.name()])?;
         scope.put_command(notes, choice)?;
-        scope.put_text(alloc, notes, choice)?;
+        scope.put_text(notes, choice)?;
         notes.say("  ")?;
-        scope.put_verdict(alloc, notes, self.view.session.world, choice)
+        scope.put_verdict(notes, self.view.session.world, choice)
     }
 
     /// Shows the commands of the process of this name, or of all processes if the name is empty, and says of each what prevents it from
     /// firing in the present state.
-    pub fn tell_list(&self, alloc: Global, notes: &mut Notes, word: &[u8]) -> Result<(), Refusal> {
+    pub fn tell_list(&self, notes: &mut Notes, word: &[u8]) -> Result<(), Refusal> {
         let Some((from, to)) = self.processes_named(notes, word)? else {
             return Ok(());
         };
         for p in from..to {
             for number in 0..self.view.session.program.commands(Pid(p)) {
-                self.tell_command(alloc, notes, Pid(p), Choice(number))?;
+                self.tell_command(notes, Pid(p), Choice(number))?;
             }
         }
-        self.tell_halted(alloc, notes)
+        self.tell_halted(notes)
     }
 
     fn tell_values(&self, notes: &mut Notes, pid: Pid) -> Result<(), AllocError> {
@@ -153,14 +147,12 @@ impl ExplainedSession<'_> {
         Ok(())
     }
 
-    fn tell_channel(
-        &self,
-        alloc: Global,
-        notes: &mut Notes,
-        source: Pid,
-        target: Pid,
-    ) -> Result<(), Refusal> {
-        let messages = self.view.session.world.channel(alloc, source, target)?;
+    fn tell_channel(&self, notes: &mut Notes, source: Pid, target: Pid) -> Result<(), Refusal> {
+        let messages = self
+            .view
+            .session
+            .world
+            .channel(notes.alloc(), source, target)?;
         if messages.items().is_empty() {
             return Ok(());
         }
@@ -174,7 +166,7 @@ impl ExplainedSession<'_> {
 
     /// Shows the variables of the process of this name, and the messages on their way to it and from it; or those of all processes, if the
     /// name is empty.
-    pub fn tell_state(&self, alloc: Global, notes: &mut Notes, word: &[u8]) -> Result<(), Refusal> {
+    pub fn tell_state(&self, notes: &mut Notes, word: &[u8]) -> Result<(), Refusal> {
         let Some((from, to)) = self.processes_named(notes, word)? else {
             return Ok(());
         };
@@ -185,7 +177,7 @@ impl ExplainedSession<'_> {
         for p in 0..self.view.session.program.processes() {
             for q in 0..self.view.session.program.processes() {
                 if is_shown(p) || is_shown(q) {
-                    self.tell_channel(alloc, notes, Pid(p), Pid(q))?;
+                    self.tell_channel(notes, Pid(p), Pid(q))?;
                 }
             }
         }

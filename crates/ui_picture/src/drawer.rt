@@ -9,7 +9,7 @@ use std::alloc::{AllocError, Global};
 use ui_diagram::{Picture, PictureForm};
 use ui_page::Recorder;
 use ui_text::{Notes, ProgramText};
-use ui_view::{Echo, Explainer, Told};
+use ui_view::{Answered, Echo, Explainer};
 
 /// An explainer that draws a session.
 #[derive(Drop)]
@@ -19,7 +19,7 @@ pub(crate) enum Drawer<'a> {
 }
 
 impl<'a> Drawer<'a> {
-    /// A drawer of this picture of a session in which no line was answered. A page shows the commands of the program as this text has them.
+    /// A drawer of this picture of a session in which no line was line. A page shows the commands of the program as this text has them.
     pub(crate) fn new(
         alloc: Global,
         wanted: Picture<'a>,
@@ -38,32 +38,24 @@ impl<N> Explainer<N> for Drawer<'_> {
         matches!(self, Drawer::Page(_))
     }
 
-    fn hear(&mut self, _alloc: Global, line: &GivenLine<'_, N>) -> Result<Echo, AllocError> {
+    fn hear(&mut self, line: &GivenLine<'_, N>) -> Result<Echo, AllocError> {
         if let Drawer::Page(recorder) = self {
             recorder.begin_line(line.played.unwrap_or(line.written));
         }
         Ok(Echo::Nothing)
     }
 
-    fn prepare(&mut self, _alloc: Global, view: SessionView<'_>, call: &Call, _notes: &mut Notes) {
+    fn prepare(&mut self, view: SessionView<'_>, call: &Call, _notes: &mut Notes) {
         if let Drawer::Page(recorder) = self {
             recorder.prepare(view, call);
         }
     }
 
-    fn explain(
-        &mut self,
-        alloc: Global,
-        view: SessionView<'_>,
-        _line: &GivenLine<'_, N>,
-        told: Told<'_>,
-        reply: &[u8],
-        _notes: &mut Notes,
-    ) -> Result<(), AllocError> {
+    fn explain(&mut self, line: &Answered<'_, N>, notes: &mut Notes) -> Result<(), AllocError> {
         match self {
-            Drawer::State(artist) => artist.look(alloc, view, told),
+            Drawer::State(artist) => artist.look(notes.alloc(), line.view, line.told),
             Drawer::Page(recorder) => {
-                recorder.end_line(view, told, reply);
+                recorder.end_line(line.view, line.told, line.reply);
                 Ok(())
             }
         }

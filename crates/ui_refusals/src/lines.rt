@@ -174,7 +174,6 @@ impl RefusingSession<'_> {
     /// Says why a command line is refused of which no call was entered. A line that names no seat is one of the first seat.
     pub fn tell_bad_line(
         &self,
-        alloc: Global,
         notes: &mut Notes,
         line: &[u8],
         refusal: &Refusal,
@@ -190,13 +189,13 @@ impl RefusingSession<'_> {
         }
         let (command, arguments) = next_word(rest);
         match refusal {
-            Refusal::JournalFull => self.tell_remedy(alloc, notes, refusal)?,
+            Refusal::JournalFull => self.tell_remedy(notes, refusal)?,
             Refusal::BadLine => self.tell_form_of(notes, seat, command, arguments)?,
             Refusal::UnknownProcess if command != b"batch".as_slice() => self.tell_unknown(
                 notes, command, arguments,
             )?,
             Refusal::BadPredicate if command == b"break".as_slice() => {
-                self.tell_conjuncts(alloc, notes, next_word(arguments).1)?;
+                self.tell_conjuncts(notes, next_word(arguments).1)?;
             }
             _ => {}
         }

@@ -185,17 +185,11 @@ impl RefusingSession<'_> {
     }
 
     // Says what is wrong with a predicate. True if something is wrong.
-    fn tell_predicate(
-        &self,
-        alloc: Global,
-        notes: &mut Notes,
-        pid: Pid,
-        text: &[u8],
-    ) -> Result<bool, Refusal> {
+    fn tell_predicate(&self, notes: &mut Notes, pid: Pid, text: &[u8]) -> Result<bool, Refusal> {
         if pid.0 >= self.view.session.program.processes() {
             return Ok(false);
         }
-        match parse_predicate(alloc, self.view.session.program, pid, text) {
+        match parse_predicate(notes.alloc(), self.view.session.program, pid, text) {
             Ok(_) => Ok(false),
             Err(ProgError::Bad(fault)) => {
                 self.tell_fault(notes, pid, text, &fault)?;
@@ -206,12 +200,7 @@ impl RefusingSession<'_> {
     }
 
     /// Says what is wrong with the first wrong conjunct.
-    pub(crate) fn tell_conjuncts(
-        &self,
-        alloc: Global,
-        notes: &mut Notes,
-        parts: &[u8],
-    ) -> Result<(), Refusal> {
+    pub(crate) fn tell_conjuncts(&self, notes: &mut Notes, parts: &[u8]) -> Result<(), Refusal> {
         let mut rest = parts;
         let mut has_part = [false; PROCESSES];
         for _ in 0..PARTS {
@@ -220,7 +209,7 @@ impl RefusingSession<'_> {
             let Some(pid) = process_named(self.view.session.program, word) else {
                 return Ok(());
             };
-            if self.tell_predicate(alloc, notes, pid, text)? {
+            if self.tell_predicate(notes, pid, text)? {
                 return Ok(());
             }
             if let Some(has) = has_part.get_mut(pid.0 as usize) {

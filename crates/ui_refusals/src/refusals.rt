@@ -57,8 +57,8 @@ impl RefusingSession<'_> {
     }
 
     // Says which breakpoints exist.
-    fn tell_breakpoints(&self, alloc: Global, notes: &mut Notes) -> Result<(), Refusal> {
-        let marks = self.view.session.book.list(alloc)?;
+    fn tell_breakpoints(&self, notes: &mut Notes) -> Result<(), Refusal> {
+        let marks = self.view.session.book.list(notes.alloc())?;
         if marks.items().is_empty() {
             return Ok(notes.say("no breakpoint is set")?);
         }
@@ -76,7 +76,6 @@ impl RefusingSession<'_> {
 
     fn tell_of_process(
         &self,
-        alloc: Global,
         notes: &mut Notes,
         plan: &Plan,
         pid: Pid,
@@ -87,10 +86,10 @@ impl RefusingSession<'_> {
             Refusal::UnknownChoice => self.tell_commands(notes, pid)?,
             Refusal::GuardFalse | Refusal::Fault | Refusal::ChannelEmpty => {
                 if let Some(choice) = self.choice_of(plan) {
-                    scope.tell_hindrance(alloc, notes, self.view.session.world, choice)?;
+                    scope.tell_hindrance(notes, self.view.session.world, choice)?;
                 }
             }
-            Refusal::NoneEnabled => scope.tell_hindrances(alloc, notes, self.view.session.world)?,
+            Refusal::NoneEnabled => scope.tell_hindrances(notes, self.view.session.world)?,
             Refusal::NothingToUndo => notes.say_with("{} is at its start", &[scope.name()])?,
             Refusal::Consequence(receiver) => self.view.tell_consequence(notes, pid, *receiver)?,
             Refusal::NothingToRedo => notes.say_with(
@@ -113,17 +112,16 @@ impl RefusingSession<'_> {
 
     fn tell_of_breakpoint(
         &self,
-        alloc: Global,
         notes: &mut Notes,
         name: Name,
         refusal: &Refusal,
     ) -> Result<(), Refusal> {
         match refusal {
-            Refusal::UnknownBreak => self.tell_breakpoints(alloc, notes),
-            Refusal::BreakTaken | Refusal::NoCut => self.view.tell_breakpoint(alloc, notes, name),
+            Refusal::UnknownBreak => self.tell_breakpoints(notes),
+            Refusal::BreakTaken | Refusal::NoCut => self.view.tell_breakpoint(notes, name),
             Refusal::NotArmed => Ok(notes.say_with("`arm {}` arms it", &[Part::Name(name)])?),
             Refusal::AlreadyArmed if self.view.cut_of(name).is_some() => {
-                self.view.tell_continuing(alloc, notes, name)
+                self.view.tell_continuing(notes, name)
             }
             _ => Ok(()),
         }
@@ -132,16 +130,15 @@ impl RefusingSession<'_> {
     /// Says why a command is refused in the present state, and what the person can do.
     pub(crate) fn tell_reason(
         &self,
-        alloc: Global,
         notes: &mut Notes,
         plan: &Plan,
         refusal: &Refusal,
     ) -> Result<(), Refusal> {
         if let Some(pid) = process_of(plan) {
-            self.tell_of_process(alloc, notes, plan, pid, refusal)?;
+            self.tell_of_process(notes, plan, pid, refusal)?;
         }
         if let Some(name) = breakpoint_of(plan) {
-            self.tell_of_breakpoint(alloc, notes, name, refusal)?;
+            self.tell_of_breakpoint(notes, name, refusal)?;
         }
         Ok(())
     }
@@ -149,49 +146,40 @@ impl RefusingSession<'_> {
     // Says why a command is refused. Of a batch, says which of its commands is.
     fn tell_of_plan(
         &self,
-        alloc: Global,
         notes: &mut Notes,
         plan: &Plan,
         refusal: &Refusal,
     ) -> Result<(), Refusal> {
         match refusal {
             Refusal::InBatch { at, number } => match plan {
-                Plan::Batch(plans) => {
-                    self.tell_in_batch(alloc, notes, plans.as_slice(), *at, *number)
-                }
+                Plan::Batch(plans) => { self.tell_in_batch(notes, plans.as_slice(), *at, *number) }
                 _ => Ok(()),
             },
-            _ => self.tell_reason(alloc, notes, plan, refusal),
+            _ => self.tell_reason(notes, plan, refusal),
         }
     }
 
     // Says why a question is refused.
     fn tell_of_query(
         &self,
-        alloc: Global,
         notes: &mut Notes,
         query: &Query,
         refusal: &Refusal,
     ) -> Result<(), Refusal> {
         match query {
             Query::CutOf(name) | Query::Why(name) => {
-                self.tell_of_breakpoint(alloc, notes, *name, refusal)
+                self.tell_of_breakpoint(notes, *name, refusal)
             }
             _ => Ok(()),
         }
     }
 
     // Says what the person can do after a refusal that does not depend on the command.
-    pub(crate) fn tell_remedy(
-        &self,
-        alloc: Global,
-        notes: &mut Notes,
-        refusal: &Refusal,
-    ) -> Result<(), Refusal> {
+    pub(crate) fn tell_remedy(&self, notes: &mut Notes, refusal: &Refusal) -> Result<(), Refusal> {
         match refusal {
             Refusal::Halted(name) => {
-                self.view.tell_breakpoint(alloc, notes, *name)?;
-                self.view.tell_continuing(alloc, notes, *name)
+                self.view.tell_breakpoint(notes, *name)?;
+                self.view.tell_continuing(notes, *name)
             }
             Refusal::OtherSeat(seat) => {
                 let seat = Part::Natural(*seat);
@@ -217,16 +205,15 @@ impl RefusingSession<'_> {
     /// Says why a call is refused, and what the person can do.
     pub fn tell_refusal(
         &self,
-        alloc: Global,
         notes: &mut Notes,
         call: &Call,
         refusal: &Refusal,
     ) -> Result<(), Refusal> {
         notes.say(meaning(refusal.number()))?;
-        self.tell_remedy(alloc, notes, refusal)?;
+        self.tell_remedy(notes, refusal)?;
         match call {
-            Call::Give(plan) => self.tell_of_plan(alloc, notes, plan, refusal),
-            Call::Ask(query) => self.tell_of_query(alloc, notes, query, refusal),
+            Call::Give(plan) => self.tell_of_plan(notes, plan, refusal),
+            Call::Ask(query) => self.tell_of_query(notes, query, refusal),
             Call::Back => Ok(()),
         }
     }

@@ -53,32 +53,26 @@ impl RefusingSession<'_> {
     }
 
     // Says which breakpoint halts the session.
-    fn tell_halted_batch(&self, alloc: Global, notes: &mut Notes) -> Result<(), Refusal> {
+    fn tell_halted_batch(&self, notes: &mut Notes) -> Result<(), Refusal> {
         match self.view.session.book.halted() {
             Some(name) => {
-                self.view.tell_breakpoint(alloc, notes, name)?;
-                self.view.tell_continuing(alloc, notes, name)
+                self.view.tell_breakpoint(notes, name)?;
+                self.view.tell_continuing(notes, name)
             }
             None => Ok(()),
         }
     }
 
     // Says why the first command of a batch is refused, which is given in the present state.
-    fn tell_first(
-        &self,
-        alloc: Global,
-        notes: &mut Notes,
-        plan: &Plan,
-        number: u32,
-    ) -> Result<(), Refusal> {
+    fn tell_first(&self, notes: &mut Notes, plan: &Plan, number: u32) -> Result<(), Refusal> {
         if number == 7 {
             return Ok(self.tell_prevented(notes, plan)?);
         }
         if number == 9 {
-            return self.tell_halted_batch(alloc, notes);
+            return self.tell_halted_batch(notes);
         }
         match refusal_of(number) {
-            Some(refusal) => self.tell_reason(alloc, notes, plan, &refusal),
+            Some(refusal) => self.tell_reason(notes, plan, &refusal),
             None => Ok(()),
         }
     }
@@ -94,13 +88,8 @@ impl RefusingSession<'_> {
     }
 
     // Says which breakpoints may halt the session after these commands of a batch: those that are armed then.
-    fn tell_halting(
-        &self,
-        alloc: Global,
-        notes: &mut Notes,
-        plans: &[Plan],
-    ) -> Result<(), Refusal> {
-        let marks = self.view.session.book.list(alloc)?;
+    fn tell_halting(&self, notes: &mut Notes, plans: &[Plan]) -> Result<(), Refusal> {
+        let marks = self.view.session.book.list(notes.alloc())?;
         let mut word = "after the commands before it, a breakpoint halts the session: ";
         notes.say("")?;
         for (name, is_armed) in marks.items() {
@@ -125,7 +114,6 @@ impl RefusingSession<'_> {
     /// Says which command of a batch is refused, and why.
     pub(crate) fn tell_in_batch(
         &self,
-        alloc: Global,
         notes: &mut Notes,
         plans: &[Plan],
         at: u32,
@@ -135,10 +123,10 @@ impl RefusingSession<'_> {
         self.put_plan_of_batch(notes, plans, at)?;
         notes.add_with(": {}", &[Part::Text(meaning(number))])?;
         match plans.first() {
-            Some(plan) if at == 1 => self.tell_first(alloc, notes, plan, number),
+            Some(plan) if at == 1 => self.tell_first(notes, plan, number),
             _ if number == 9 => {
                 let before = (at as usize).saturating_sub(1);
-                self.tell_halting(alloc, notes, plans.get(..before).unwrap_or(plans))
+                self.tell_halting(notes, plans.get(..before).unwrap_or(plans))
             }
             _ => Ok(notes.say(
                 "the commands before it were accepted, and are undone: of a batch all commands are made, or none",

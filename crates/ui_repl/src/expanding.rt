@@ -67,11 +67,12 @@ struct Expander {
 
 impl Expander {
     // Appends a line. Of a model, comments are left out.
-    fn put(&mut self, alloc: Global, line: &ExpandedLine<'_>) -> Result<(), AllocError> {
+    fn put(&mut self, line: &ExpandedLine<'_>) -> Result<(), AllocError> {
         let Some(played) = line.played else {
             return Err(AllocError);
         };
         if let (Some(fault), None) = (line.note, &self.fault) {
+            let alloc = *self.text.allocator();
             self.fault = Some(fault_notes(alloc, self.count, played, &fault.fault)?);
         }
         let is_comment = played.trim_ascii_start().first() == Some(&b'#');
@@ -83,8 +84,8 @@ impl Expander {
 }
 
 impl Explainer<Option<LineFault>> for Expander {
-    fn hear(&mut self, alloc: Global, line: &ExpandedLine<'_>) -> Result<Echo, AllocError> {
-        self.put(alloc, line)?;
+    fn hear(&mut self, line: &ExpandedLine<'_>) -> Result<Echo, AllocError> {
+        self.put(line)?;
         if line.is_first {
             self.count = self.count.saturating_add(1);
         }

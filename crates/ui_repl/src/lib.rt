@@ -16,7 +16,7 @@ pub use expanding::{expand, write_notes, write_text};
 pub use fault_places::refuse;
 pub use naming::{name_commands, tell_notation};
 pub use opening::{OpenSession, Opening, PlayedSession, open};
-pub use read_line::{ExpandedLine, LineFault};
+pub use read_line::{AnsweredLine, ExpandedLine, LineFault};
 pub use running::{explain, talk};
 pub use sentences::Sentences;
 pub use session_lines::SessionLines;

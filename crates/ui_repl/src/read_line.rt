@@ -8,6 +8,7 @@ use notation::{Fault, LineExpander, NotationError};
 use shell_io::GivenLine;
 use shell_serve::{Answer, Span};
 use std::alloc::{AllocError, Global};
+use ui_view::Answered;
 
 /// Why a line cannot be expanded, and the plain name of the process that it named before its fault.
 #[derive(Drop)]
@@ -18,6 +19,9 @@ pub struct LineFault {
 
 /// A line that is played, with why it cannot be expanded, if it cannot.
 pub type ExpandedLine<'a> = GivenLine<'a, Option<LineFault>>;
+
+/// Such a line, and what was said to it.
+pub type AnsweredLine<'a> = Answered<'a, Option<LineFault>>;
 
 /// The line that was read last. It may be short, and that of a model may be in the notation.
 #[derive(Drop)]

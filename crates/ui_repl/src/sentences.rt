@@ -1,6 +1,6 @@
 //! The explanations of an interactive session.
 
-use crate::read_line::{ExpandedLine, LineFault};
+use crate::read_line::{AnsweredLine, ExpandedLine, LineFault};
 use crate::words::{is_for, without_seat};
 use crate::written_program::WrittenProgram;
 use dbg_base::{Call, Name, Pid, Refusal, Said};
@@ -14,7 +14,7 @@ use ui_text::{Notes, Part, tell_help, tell_to_file, tell_too_long};
 use ui_timeline::Selection;
 use ui_view::{CountedCommand, CountedCommands, Directive, Echo, Explainer, SourceView, Told};
 
-/// The most bytes of explanations of a session. A line that is answered without a call counts more, by the work that its answer takes.
+/// The most bytes of explanations of a session. A line that is line without a call counts more, by the work that its answer takes.
 pub const EXPLAINED_BYTES: usize = 268_435_456;
 
 // How many bytes of explanations take as long as a picture takes for each event of its session.
@@ -111,7 +111,6 @@ impl<'a> Sentences<'a> {
 
     fn tell_line(
         &self,
-        alloc: Global,
         notes: &mut Notes,
         view: SessionView<'_>,
         given: &ExpandedLine<'_>,
@@ -121,7 +120,7 @@ impl<'a> Sentences<'a> {
         if let Some(fault) = given.note {
             return Ok(
                 self.program
-                    .tell_line_fault(alloc, notes, view.program, line, fault)?,
+                    .tell_line_fault(notes, view.program, line, fault)?,
             );
         }
         let arguments = next_word(without_seat(line)).1;
@@ -131,7 +130,7 @@ impl<'a> Sentences<'a> {
         let refusing = RefusingSession {
             view: view_of(self.program, view),
         };
-        refusing.tell_bad_line(alloc, notes, line, refusal)?;
+        refusing.tell_bad_line(notes, line, refusal)?;
         if *refusal == Refusal::BadLine {
             self.tell_labels(notes, view, line)?;
         }
@@ -140,7 +139,6 @@ impl<'a> Sentences<'a> {
 
     fn tell_said(
         &self,
-        alloc: Global,
         notes: &mut Notes,
         view: SessionView<'_>,
         call: &Call,
@@ -159,11 +157,11 @@ impl<'a> Sentences<'a> {
         let view = view_of(self.program, view);
         let explained = ExplainedSession { view };
         match said {
-            Said::Accepted(reply) => explained.tell_reply(alloc, notes, &self.before, call, reply),
+            Said::Accepted(reply) => explained.tell_reply(notes, &self.before, call, reply),
             Said::Refused(refusal) => {
-                RefusingSession { view }.tell_refusal(alloc, notes, call, refusal)
+                RefusingSession { view }.tell_refusal(notes, call, refusal)
             }
-            Said::Answered(_) => explained.tell_answer(alloc, notes, call),
+            Said::Answered(_) => explained.tell_answer(notes, call),
         }
     }
 
@@ -180,14 +178,13 @@ impl<'a> Sentences<'a> {
     }
 
     // Draws the whole session.
-    fn draw(&self, alloc: Global, notes: &mut Notes, view: SourceView<'_>) -> Result<(), Refusal> {
-        let selection = Selection::of(alloc, view, None, ALL_EVENTS as usize)?;
-        draw_text(alloc, notes, view, &selection, self.width)
+    fn draw(&self, notes: &mut Notes, view: SourceView<'_>) -> Result<(), Refusal> {
+        let selection = Selection::of(notes.alloc(), view, None, ALL_EVENTS as usize)?;
+        draw_text(notes.alloc(), notes, view, &selection, self.width)
     }
 
     fn tell_directive(
         &self,
-        alloc: Global,
         notes: &mut Notes,
         view: SessionView<'_>,
         commands: &CountedCommands,
@@ -201,11 +198,11 @@ impl<'a> Sentences<'a> {
         match directive {
             Directive::Remark | Directive::Quit => Ok(()),
             Directive::Help(word) => Ok(tell_help(notes, word)?),
-            Directive::On(name) => explained.tell_on(alloc, notes, name),
-            Directive::List(name) => explained.tell_list(alloc, notes, name),
-            Directive::State(name) => explained.tell_state(alloc, notes, name),
+            Directive::On(name) => explained.tell_on(notes, name),
+            Directive::List(name) => explained.tell_list(notes, name),
+            Directive::State(name) => explained.tell_state(notes, name),
             Directive::Line(name) => Ok(explained.tell_line(notes, name)?),
-            Directive::Draw => self.draw(alloc, notes, view),
+            Directive::Draw => self.draw(notes, view),
             Directive::Session => Ok(commands.tell_lines(notes)?),
             Directive::TooLong(word) => Ok(tell_too_long(notes, word)?),
             Directive::ToFile(word) => Ok(tell_to_file(notes, word)?),
@@ -216,7 +213,7 @@ impl<'a> Sentences<'a> {
 impl Explainer<Option<LineFault>> for Sentences<'_> {
     // The terminal already shows what was typed, but not the plain lines of a `for`. Of other lines, those that belong together are together:
     // comments, a command, and the reply that is expected to it.
-    fn hear(&mut self, _alloc: Global, line: &ExpandedLine<'_>) -> Result<Echo, AllocError> {
+    fn hear(&mut self, line: &ExpandedLine<'_>) -> Result<Echo, AllocError> {
         let before = self.last_kind;
         let kind = LineKind::of(line.played.unwrap_or(line.written));
         if before != LineKind::None || kind != LineKind::Blank {
@@ -232,39 +229,25 @@ impl Explainer<Option<LineFault>> for Sentences<'_> {
         })
     }
 
-    fn prepare(
-        &mut self,
-        _alloc: Global,
-        session: SessionView<'_>,
-        call: &Call,
-        notes: &mut Notes,
-    ) {
+    fn prepare(&mut self, session: SessionView<'_>, call: &Call, notes: &mut Notes) {
         let view = view_of(self.program, session);
         let explained = ExplainedSession { view };
         self.is_prepared = self.left > 0
             && explained.note_before(notes, &mut self.before, call).is_ok();
     }
 
-    fn explain(
-        &mut self,
-        alloc: Global,
-        view: SessionView<'_>,
-        line: &ExpandedLine<'_>,
-        told: Told<'_>,
-        _reply: &[u8],
-        notes: &mut Notes,
-    ) -> Result<(), AllocError> {
-        let is_accepted = matches!(told, Told::Said(_, Said::Accepted(_), _));
+    fn explain(&mut self, line: &AnsweredLine<'_>, notes: &mut Notes) -> Result<(), AllocError> {
+        let is_accepted = matches!(line.told, Told::Said(_, Said::Accepted(_), _));
         self.before.settle(notes, self.is_prepared && is_accepted);
-        match told {
+        match line.told {
             Told::Said(_, _, _) if self.left == 0 => {}
             Told::Said(call, said, taken_back) => {
-                let _ended = self.tell_said(alloc, notes, view, call, said, taken_back);
+                let _ended = self.tell_said(notes, line.view, call, said, taken_back);
                 self.spend(notes, 0);
             }
             Told::Refused(_) if self.left == 0 => Sentences::tell_end(notes),
             Told::Refused(refusal) => {
-                let _ended = self.tell_line(alloc, notes, view, line, refusal);
+                let _ended = self.tell_line(notes, line.view, line.given, refusal);
                 self.spend(notes, self.program.text().text().len());
             }
         }
@@ -273,7 +256,6 @@ impl Explainer<Option<LineFault>> for Sentences<'_> {
 
     fn answer_directive(
         &mut self,
-        alloc: Global,
         view: SessionView<'_>,
         commands: &CountedCommands,
         directive: Directive<'_>,
@@ -285,7 +267,7 @@ impl Explainer<Option<LineFault>> for Sentences<'_> {
         if self.left == 0 {
             return Sentences::tell_end(notes);
         }
-        let _ended = self.tell_directive(alloc, notes, view, commands, directive);
+        let _ended = self.tell_directive(notes, view, commands, directive);
         let more = match directive {
             Directive::Draw => events_of(view).saturating_mul(EVENT_WEIGHT),
             _ => self.program.text().text().len(),

@@ -154,7 +154,6 @@ impl WrittenProgram {
     /// Says why a line of a session cannot be expanded: the line with a mark under the place, what is wrong, and what was probably meant.
     pub(crate) fn tell_line_fault(
         &self,
-        alloc: Global,
         notes: &mut Notes,
         program: &Program,
         line: &[u8],
@@ -162,7 +161,7 @@ impl WrittenProgram {
     ) -> Result<(), AllocError> {
         let place = FaultPlace::in_line(line, self.text.text(), &fault.fault);
         // The number of the line in its text says nothing here.
-        let explanation = place.explanation(alloc)?;
+        let explanation = place.explanation(notes.alloc())?;
         for number in 1..explanation.count() {
             notes.say_with("{}", &[Part::Bytes(explanation.line(number).bytes)])?;
         }

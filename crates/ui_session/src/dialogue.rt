@@ -16,7 +16,7 @@ use shell_serve::{LineReply, LineSort, Observer};
 use std::alloc::{AllocError, Global};
 use std::mem;
 use ui_text::Notes;
-use ui_view::{CountedCommands, Echo, Explainer, Told};
+use ui_view::{Answered, CountedCommands, Echo, Explainer, Told};
 
 /// The observer of an interactive session. It writes each line that was not typed, and an explanation after the reply. A directive has only
 /// an explanation. A command line without a seat is one of seat 1.
@@ -117,12 +117,12 @@ impl<T: Explainer<N>, N> Observer<N> for Dialogue<T> {
 
     fn before<W: Sink>(
         &mut self,
-        alloc: Global,
+        _alloc: Global,
         line: &GivenLine<'_, N>,
         writer: &mut W,
     ) -> Result<(), ServeFault> {
         self.notes.begin(writer.shows_styles());
-        let heard = self.explainer.hear(alloc, line);
+        let heard = self.explainer.hear(line);
         self.is_out_of_memory |= heard.is_err();
         let echo = heard.unwrap_or(Echo::Nothing);
         let (echoes, gap) = (echo != Echo::Nothing, gap_before(echo));
@@ -134,23 +134,18 @@ impl<T: Explainer<N>, N> Observer<N> for Dialogue<T> {
 
     fn direct<W: Sink>(
         &mut self,
-        alloc: Global,
+        _alloc: Global,
         view: SessionView<'_>,
         line: &[u8],
         writer: &mut W,
     ) -> Result<(), ServeFault> {
-        self.explainer.answer_directive(
-            alloc,
-            view,
-            &self.commands,
-            directive(line),
-            &mut self.notes,
-        );
+        self.explainer
+            .answer_directive(view, &self.commands, directive(line), &mut self.notes);
         explain(&mut self.notes, writer)
     }
 
-    fn prepare(&mut self, alloc: Global, view: SessionView<'_>, call: &Call) {
-        self.explainer.prepare(alloc, view, call, &mut self.notes);
+    fn prepare(&mut self, _alloc: Global, view: SessionView<'_>, call: &Call) {
+        self.explainer.prepare(view, call, &mut self.notes);
     }
 
     #[inline(always)]
@@ -166,14 +161,13 @@ impl<T: Explainer<N>, N> Observer<N> for Dialogue<T> {
             let kept = keep_reply(alloc, view.program, reply, &mut self.reply);
             self.is_out_of_memory |= kept.is_err();
         }
-        let explained = self.explainer.explain(
-            alloc,
+        let answered = Answered {
             view,
-            line,
-            told(&self.commands, reply),
-            self.reply.as_slice(),
-            &mut self.notes,
-        );
+            given: line,
+            told: told(&self.commands, reply),
+            reply: self.reply.as_slice(),
+        };
+        let explained = self.explainer.explain(&answered, &mut self.notes);
         self.is_out_of_memory |= explained.is_err();
         count(&mut self.commands, line, reply);
         explain(&mut self.notes, writer)

@@ -94,12 +94,7 @@ impl<'a> SourceView<'a> {
     }
 
     /// Says what a breakpoint's predicate is, and what its cut is, or which parts do not hold yet.
-    pub fn tell_breakpoint(
-        &self,
-        alloc: Global,
-        notes: &mut Notes,
-        name: Name,
-    ) -> Result<(), Refusal> {
+    pub fn tell_breakpoint(&self, notes: &mut Notes, name: Name) -> Result<(), Refusal> {
         let Some(detector) = self.detector_of(name) else {
             return Ok(());
         };
@@ -108,7 +103,7 @@ impl<'a> SourceView<'a> {
         if let Some(cut) = detector.cut() {
             return Ok(self.tell_cut(notes, cut)?);
         }
-        for pid in &self.past_processes(alloc, detector)? {
+        for pid in &self.past_processes(notes.alloc(), detector)? {
             self.tell_not_yet(notes, detector, *pid)?;
         }
         Ok(())
@@ -140,14 +135,9 @@ impl<'a> SourceView<'a> {
     }
 
     /// Says how the session continues after a halt.
-    pub fn tell_continuing(
-        &self,
-        alloc: Global,
-        notes: &mut Notes,
-        halting: Name,
-    ) -> Result<(), Refusal> {
+    pub fn tell_continuing(&self, notes: &mut Notes, halting: Name) -> Result<(), Refusal> {
         notes.say_with("`pass {}", &[Part::Name(halting)])?;
-        match self.next_halting(alloc, halting)? {
+        match self.next_halting(notes.alloc(), halting)? {
             Some(next) => notes.add_with(
                 "` disarms it, and then the breakpoint {} halts the session",
                 &[Part::Name(next)],

@@ -22,13 +22,8 @@ impl ProcessView<'_> {
     }
 
     /// Appends the text of a command to the last line.
-    pub fn put_text(
-        &self,
-        alloc: Global,
-        notes: &mut Notes,
-        choice: Choice,
-    ) -> Result<(), AllocError> {
-        let text = self.text.command_text(alloc, self.pid, choice)?;
+    pub fn put_text(&self, notes: &mut Notes, choice: Choice) -> Result<(), AllocError> {
+        let text = self.text.command_text(notes.alloc(), self.pid, choice)?;
         notes.add_with(": {}", &[Part::Bytes(text.as_slice())])
     }
 }

@@ -28,6 +28,17 @@ pub enum Told<'a> {
     Refused(&'a Refusal),
 }
 
+/// A line, and what was said to it.
+#[derive(Drop)]
+pub struct Answered<'a, N> {
+    /// The session after the answer.
+    pub view: SessionView<'a>,
+    pub given: &'a GivenLine<'a, N>,
+    pub told: Told<'a>,
+    /// The line of the reply, which is empty unless the explainer keeps replies.
+    pub reply: &'a [u8],
+}
+
 /// Explains each line of a session, of which its source notes an `N`. It borrows the session, so it does not change it. The default methods
 /// explain nothing. Errors: memory ran out.
 pub trait Explainer<N> {
@@ -37,37 +48,21 @@ pub trait Explainer<N> {
     }
 
     /// A line is about to be answered. Returns how the line is written before its reply.
-    fn hear(&mut self, _alloc: Global, _line: &GivenLine<'_, N>) -> Result<Echo, AllocError> {
+    fn hear(&mut self, _line: &GivenLine<'_, N>) -> Result<Echo, AllocError> {
         Ok(Echo::Nothing)
     }
 
     /// A call is about to be made. Writes what has to be known before it into the explanation.
-    fn prepare(
-        &mut self,
-        _alloc: Global,
-        _view: SessionView<'_>,
-        _call: &Call,
-        _notes: &mut Notes,
-    ) {}
+    fn prepare(&mut self, _view: SessionView<'_>, _call: &Call, _notes: &mut Notes) {}
 
-    /// Writes the explanation of what was said to a line, after what was written before the call. The line of the reply is empty, unless the
-    /// explainer keeps replies.
-    fn explain(
-        &mut self,
-        _alloc: Global,
-        _view: SessionView<'_>,
-        _line: &GivenLine<'_, N>,
-        _told: Told<'_>,
-        _reply: &[u8],
-        _notes: &mut Notes,
-    ) -> Result<(), AllocError> {
+    /// Writes the explanation of what was said to a line, after what was written before the call.
+    fn explain(&mut self, _line: &Answered<'_, N>, _notes: &mut Notes) -> Result<(), AllocError> {
         Ok(())
     }
 
     /// Writes the answer to a directive, after these commands.
     fn answer_directive(
         &mut self,
-        _alloc: Global,
         _view: SessionView<'_>,
         _commands: &CountedCommands,
         _directive: Directive<'_>,

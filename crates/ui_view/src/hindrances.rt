@@ -159,12 +159,12 @@ impl ProcessView<'_> {
     /// Appends why a command does not fire in the present state, or that it can fire, to the last line.
     pub fn put_verdict(
         &self,
-        alloc: Global,
         notes: &mut Notes,
         world: &World,
         choice: Choice,
     ) -> Result<(), Refusal> {
-        let Some(hindrance) = find_hindrance(alloc, self.program, world, self.pid, choice)? else {
+        let Some(hindrance) = find_hindrance(notes.alloc(), self.program, world, self.pid, choice)?
+        else {
             return Ok(notes.add("it can fire")?);
         };
         match (
@@ -181,7 +181,6 @@ impl ProcessView<'_> {
     /// Says why this command does not fire, or that it can fire.
     pub fn tell_hindrance(
         &self,
-        alloc: Global,
         notes: &mut Notes,
         world: &World,
         choice: Choice,
@@ -189,18 +188,13 @@ impl ProcessView<'_> {
         notes.say("")?;
         self.put_command(notes, choice)?;
         notes.add(": ")?;
-        self.put_verdict(alloc, notes, world, choice)
+        self.put_verdict(notes, world, choice)
     }
 
     /// Says for each command of the process why it does not fire, or that it can fire.
-    pub fn tell_hindrances(
-        &self,
-        alloc: Global,
-        notes: &mut Notes,
-        world: &World,
-    ) -> Result<(), Refusal> {
+    pub fn tell_hindrances(&self, notes: &mut Notes, world: &World) -> Result<(), Refusal> {
         for number in 0..self.program.commands(self.pid) {
-            self.tell_hindrance(alloc, notes, world, Choice(number))?;
+            self.tell_hindrance(notes, world, Choice(number))?;
         }
         Ok(())
     }

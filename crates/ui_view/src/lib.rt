@@ -19,7 +19,7 @@ pub use breakpoints::part_of;
 pub use counted::{BreakpointChange, CountedCommand, CountedCommands};
 pub use directive::Directive;
 pub use events::{EventNews, receiving, sending};
-pub use explainer::{Echo, Explainer, Told};
+pub use explainer::{Answered, Echo, Explainer, Told};
 pub use expressions::{ProcessView, count_form};
 pub use finding::find_hindrance;
 pub use hindrance::Hindrance;
