@@ -1,9 +1,9 @@
 //! The arguments of `draw`.
 
-use crate::usage::with_file;
+use crate::usage::{flag, valued, with_file};
 use clap::builder::ValueParser;
 use clap::error::ErrorKind;
-use clap::{Arg, ArgAction, ArgMatches, Command, Error};
+use clap::{ArgMatches, Command, Error};
 use std::alloc::{AllocError, Global};
 use ui_diagram::{ALL_EVENTS, Moment, Picture, PictureForm, WIDTH};
 use ui_timeline::Theme;
@@ -24,57 +24,52 @@ pub(crate) fn draw<'a>(alloc: Global) -> Result<Command<'a>, AllocError> {
         "The program and the first lines; those of standard input follow",
     )?
     .arg(
-        Arg::new(alloc, "as")
-            .long("as")
-            .value_name("FORM")
+        valued(alloc, "as", "FORM", "The form of the picture")
             .default_value("text")
-            .value_parser(ValueParser::Names(&PICTURES))
-            .help("The form of the picture"),
+            .value_parser(ValueParser::Names(&PICTURES)),
     )?
     .arg(
-        Arg::new(alloc, "at")
-            .long("at")
-            .value_name("LINE")
-            .value_parser(clap::value_parser!(u32).range(1..))
-            .conflicts_with("at-halt")?
-            .help("Draws the state after this line of the input, from 1, in place of the end"),
+        valued(
+            alloc,
+            "at",
+            "LINE",
+            "Draws the state after this line of the input, from 1, in place of the end",
+        )
+        .value_parser(clap::value_parser!(u32).range(1..))
+        .conflicts_with("at-halt")?,
     )?
-    .arg(
-        Arg::new(alloc, "at-halt")
-            .long("at-halt")
-            .action(ArgAction::SetTrue)
-            .help("Draws the state at the first halt, in place of the end"),
-    )?
-    .arg(
-        Arg::new(alloc, "width")
-            .long("width")
-            .value_name("N")
-            .value_parser(clap::value_parser!(u32).range(20..=1_000))
-            .help(
-                "How many characters wide a text picture is at most, from 20 to 1000, if not 120",
-            ),
-    )?
-    .arg(
-        Arg::new(alloc, "last")
-            .long("last")
-            .value_name("N")
-            .value_parser(clap::value_parser!(u32).range(1..))
-            .help("Draws at most the last N events; for an svg picture 2000 if not given"),
-    )?
-    .arg(
-        Arg::new(alloc, "only").long("only").value_name("P,Q").help(
-            "Draws only these processes, their names separated by commas",
-        ),
-    )?
-    .arg(
-        Arg::new(alloc, "theme")
-            .long("theme")
-            .value_name("COLOURS")
-            .value_parser(ValueParser::Names(&THEMES))
-            .help(
-                "The colours of an svg picture: those that a reader prefers, light ones or dark ones",
-            ),
+    .arg(flag(
+        alloc,
+        "at-halt",
+        "Draws the state at the first halt, in place of the end",
+    ))?
+    .arg(valued(
+        alloc,
+        "width",
+        "N",
+        "How many characters wide a text picture is at most, from 20 to 1000, if not 120",
     )
+    .value_parser(clap::value_parser!(u32).range(20..=1_000)))?
+    .arg(valued(
+        alloc,
+        "last",
+        "N",
+        "Draws at most the last N events; for an svg picture 2000 if not given",
+    )
+    .value_parser(clap::value_parser!(u32).range(1..)))?
+    .arg(valued(
+        alloc,
+        "only",
+        "P,Q",
+        "Draws only these processes, their names separated by commas",
+    ))?
+    .arg(valued(
+        alloc,
+        "theme",
+        "COLOURS",
+        "The colours of an svg picture: those that a reader prefers, light ones or dark ones",
+    )
+    .value_parser(ValueParser::Names(&THEMES)))
 }
 
 // The form of this name.

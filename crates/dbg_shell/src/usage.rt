@@ -78,6 +78,22 @@ fn file<'a>(alloc: Global) -> Arg<'a> {
     Arg::new(alloc, "file").value_name("FILE")
 }
 
+/// An option that has no value.
+pub(crate) fn flag<'a>(alloc: Global, name: &'a str, help: &'a str) -> Arg<'a> {
+    Arg::new(alloc, name)
+        .long(name)
+        .action(ArgAction::SetTrue)
+        .help(help)
+}
+
+/// An option with a value of this name.
+pub(crate) fn valued<'a>(alloc: Global, name: &'a str, value: &'a str, help: &'a str) -> Arg<'a> {
+    Arg::new(alloc, name)
+        .long(name)
+        .value_name(value)
+        .help(help)
+}
+
 /// The subcommand of this name, which may have a file.
 pub(crate) fn with_file<'a>(
     alloc: Global,
@@ -100,14 +116,14 @@ fn talk<'a>(alloc: Global) -> Result<Command<'a>, AllocError> {
         "The program and the first lines; those of standard input follow",
     )?
     .arg(
-        Arg::new(alloc, "color")
-            .long("color")
-            .value_name("WHEN")
-            .default_value("auto")
-            .value_parser(ValueParser::Names(&COLORINGS))
-            .help(
-                "Whether output is coloured; `auto`: at a terminal, unless NO_COLOR is set or TERM is dumb",
-            ),
+        valued(
+            alloc,
+            "color",
+            "WHEN",
+            "Whether output is coloured; `auto`: at a terminal, unless NO_COLOR is set or TERM is dumb",
+        )
+        .default_value("auto")
+        .value_parser(ValueParser::Names(&COLORINGS)),
     )
 }
 
@@ -127,14 +143,11 @@ fn expand<'a>(alloc: Global) -> Result<Command<'a>, AllocError> {
         "Prints the plain session of one in the model notation",
         "The program and the first lines; those of standard input follow",
     )?
-    .arg(
-        Arg::new(alloc, "names")
-            .long("names")
-            .action(ArgAction::SetTrue)
-            .help(
-                "Lists the commands of the program with their names in the text, in columns with tabs between",
-            ),
-    )
+    .arg(flag(
+        alloc,
+        "names",
+        "Lists the commands of the program with their names in the text, in columns with tabs between",
+    ))
 }
 
 fn run<'a>(alloc: Global) -> Result<Command<'a>, AllocError> {
@@ -153,12 +166,11 @@ fn check<'a>(alloc: Global) -> Result<Command<'a>, AllocError> {
         "Reads a program and prints how many processes and commands it has, or what is wrong",
         "The program, in place of standard input",
     )?
-    .arg(
-        Arg::new(alloc, "explain")
-            .long("explain")
-            .action(ArgAction::SetTrue)
-            .help("Prints the line and the place of what is wrong, and the likely correction"),
-    )
+    .arg(flag(
+        alloc,
+        "explain",
+        "Prints the line and the place of what is wrong, and the likely correction",
+    ))
 }
 
 fn crew<'a>(alloc: Global) -> Result<Command<'a>, AllocError> {
@@ -169,12 +181,14 @@ fn crew<'a>(alloc: Global) -> Result<Command<'a>, AllocError> {
         "The program, in place of standard input",
     )?
     .arg(
-        Arg::new(alloc, "turns")
-            .long("turns")
-            .value_name("N")
-            .required(true)
-            .value_parser(clap::value_parser!(u32).range(1..=i64::from(TURNS)))
-            .help("How often to give `next` for each process, from 1 to 100000"),
+        valued(
+            alloc,
+            "turns",
+            "N",
+            "How often to give `next` for each process, from 1 to 100000",
+        )
+        .required(true)
+        .value_parser(clap::value_parser!(u32).range(1..=i64::from(TURNS))),
     )
 }
 
@@ -188,20 +202,16 @@ fn test<'a>(alloc: Global) -> Result<Command<'a>, AllocError> {
                 "The sessions, or folders: each session `*.rdbg` below a folder is played",
             ),
         )?
-        .arg(
-            Arg::new(alloc, "tap")
-                .long("tap")
-                .action(ArgAction::SetTrue)
-                .help("Prints the results as the Test Anything Protocol has them"),
-        )?
-        .arg(
-            Arg::new(alloc, "fill")
-                .long("fill")
-                .action(ArgAction::SetTrue)
-                .help(
-                    "Prints the session of one FILE with the replies that it has now, and compares nothing",
-                ),
-        )
+        .arg(flag(
+            alloc,
+            "tap",
+            "Prints the results as the Test Anything Protocol has them",
+        ))?
+        .arg(flag(
+            alloc,
+            "fill",
+            "Prints the session of one FILE with the replies that it has now, and compares nothing",
+        ))
 }
 
 // A file that has to be named.

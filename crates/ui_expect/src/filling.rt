@@ -64,15 +64,13 @@ impl Explainer<Option<LineFault>> for Filler {
     }
 }
 
-// Plays a session that was opened, and writes it with its replies.
-fn fill_open<R: Source + Typed, W: Sink, E: Sink>(
+// Plays a session that was opened. Returns it with its replies, or None if the input is too long.
+fn filled<R: Source + Typed>(
     alloc: Global,
     written: &WrittenProgram,
     session: OpenSession,
     reader: &mut R,
-    writer: &mut W,
-    errors: &mut E,
-) -> Result<Served, ServeFault>
+) -> Result<Option<Vec<u8>>, ServeFault>
     requires { EndsWith session.input.ended (R.remaining reader.old) }
 {
     let mut filler = Filler {
@@ -89,15 +87,19 @@ fn fill_open<R: Source + Typed, W: Sink, E: Sink>(
         lines,
     } = session.play_unheard(alloc, written, None, filler, reader)?;
     if served == Served::TooLong {
-        return tell_too_long(errors);
+        return Ok(None);
     }
     let (mut filler, mut lines) = (explainer, lines);
     while let Some(span) = lines.unplayed(reader)? {
         filler.begin(lines.input.line(span))?;
     }
     filler.end()?;
-    write_text(filler.text.as_slice(), writer)?;
-    Ok(Served::Done)
+    let Filler {
+        text,
+        reply: _,
+        is_answered: _,
+    } = filler;
+    Ok(Some(text))
 }
 
 /// Plays a session, which may be in the model notation, and writes it with its replies: a line `> REPLY` after each command line, in place of
@@ -109,9 +111,13 @@ pub fn fill_session<R: Source + Typed, W: Sink, E: Sink>(
     errors: &mut E,
 ) -> Result<Served, ServeFault> {
     match open(alloc, reader, errors)? {
-        Opening::Session(written, session) => {
-            fill_open(alloc, &written, session, reader, writer, errors)
-        }
+        Opening::Session(written, session) => match filled(alloc, &written, session, reader)? {
+            Some(text) => {
+                write_text(text.as_slice(), writer)?;
+                Ok(Served::Done)
+            }
+            None => tell_too_long(errors),
+        },
         Opening::Refused(told) => told,
     }
 }

@@ -4,19 +4,18 @@ ghost use Rattle.shell_serve.specs.Spans.{EndsWith};
 
 use crate::explanation::LastExplanation;
 use crate::outcome::Outcome;
-use crate::reports::{begin_refusal, begin_report, tell_long_session};
+use crate::reports::{begin_refusal, begin_report, put_replies, tell_long_session};
 use dbg_base::Call;
 use dbg_command::SessionView;
 use proc_tree::Program;
 use shell_io::{Noted, Sink, Source};
 use shell_print::{ServeFault, Served, tell_too_long};
-use shell_serve::{Input, read_program_text, text_alone};
+use shell_serve::Input;
 use std::alloc::{AllocError, Global};
-use std::io::Read;
-use std::{io, mem};
+use std::mem;
 use ui_repl::{
-    AnsweredLine, ExpandedLine, LineFault, OpenSession, Opening, PlayedSession, ReadText,
-    WrittenProgram, open, read_text, refuse, write_notes, write_text,
+    AnsweredLine, ExpandedLine, LineFault, OpenSession, Opening, PlayedSession, ProgramAlone,
+    WrittenProgram, open, read_alone, refuse, write_notes, write_text,
 };
 use ui_session::{Room, Typed};
 use ui_text::{Notes, Part};
@@ -38,24 +37,6 @@ pub enum Replayed {
 pub struct ReplayNames<'a> {
     pub session: &'a str,
     pub program: &'a str,
-}
-
-// The lines of a session, to be read again.
-#[derive(Drop)]
-struct KeptLines<'a> {
-    rest: &'a [u8],
-}
-
-impl Read for KeptLines<'_> {
-    fn read(&mut self, bytes: &mut [u8]) -> io::Result<usize> {
-        self.rest.read(bytes)
-    }
-}
-
-impl Typed for KeptLines<'_> {
-    fn is_typed(&self) -> bool {
-        false
-    }
 }
 
 // Notes what is said to the lines of a session, and compares it with what was said before.
@@ -196,11 +177,10 @@ impl<'a> Replayer<'a> {
         let mut notes = Notes::new(self.alloc);
         let (session, program) = (self.names.session, self.names.program);
         notes.say_with(
-            "{}: the same with {}",
+            "{}: the same with {}, ",
             &[Part::Text(session), Part::Text(program)],
         )?;
-        let replies = if count == 1 { "reply" } else { "replies" };
-        notes.add_with(", {} {}", &[Part::Count(count), Part::Text(replies)])?;
+        put_replies(&mut notes, count)?;
         Ok((notes, Replayed::Same))
     }
 }
@@ -260,7 +240,7 @@ fn replay_open<'a, R: Source + Typed>(
     let outcomes = mem::replace(&mut first.outcomes, Vec::new(alloc));
     let second = Replayer::new(alloc, names, edited, number, Some(outcomes));
     let rest = lines.input.bytes().get(from..).unwrap_or(&[]);
-    let mut again = Noted::new(KeptLines { rest });
+    let mut again = Noted::new(rest);
     let input = Input::new(alloc)?;
     let session = OpenSession { program, input };
     let mut played = session.play_unheard(alloc, edited, None, second, &mut again)?;
@@ -304,19 +284,17 @@ pub fn replay<R: Source + Typed, P: Source, W: Sink>(
     edited: &mut P,
     writer: &mut W,
 ) -> Result<Replayed, ServeFault> {
-    let mut input = Input::new(alloc)?;
-    let end = read_program_text(&mut input, edited)?;
-    let Some(text) = text_alone(&input, end) else {
-        begin_refusal(names.program, writer)?;
-        return Ok(Replayed::Unplayed(tell_too_long(writer)?));
+    let wrong = match read_alone(alloc, edited)? {
+        ProgramAlone::Program(written, program) => {
+            return replay_on(alloc, names, &written, program, reader, writer);
+        }
+        ProgramAlone::Wrong(wrong) => Some(wrong),
+        ProgramAlone::TooLong => None,
     };
-    match read_text(alloc, text)? {
-        ReadText::Program(written, program) => {
-            replay_on(alloc, names, &written, program, reader, writer)
-        }
-        ReadText::Wrong(fault) => {
-            begin_refusal(names.program, writer)?;
-            Ok(Replayed::Unplayed(refuse(alloc, text, &fault, writer)?))
-        }
-    }
+    begin_refusal(names.program, writer)?;
+    let served = match wrong {
+        Some(wrong) => refuse(alloc, wrong.text(), &wrong.fault, writer)?,
+        None => tell_too_long(writer)?,
+    };
+    Ok(Replayed::Unplayed(served))
 }

@@ -30,6 +30,12 @@ pub(crate) fn tell_long_session(alloc: Global, name: &str) -> Result<Notes, Allo
     Ok(notes)
 }
 
+/// Appends how many replies there are to a report.
+pub(crate) fn put_replies(notes: &mut Notes, count: usize) -> Result<(), AllocError> {
+    let replies = if count == 1 { "reply" } else { "replies" };
+    notes.add_with("{} {}", &[Part::Count(count), Part::Text(replies)])
+}
+
 /// Begins the report that the text of this file is refused.
 pub(crate) fn begin_refusal<W: Sink>(name: &str, writer: &mut W) -> Result<(), ServeFault> {
     write_whole(writer, name.as_bytes())?;

@@ -4,7 +4,7 @@ ghost use Rattle.shell_serve.specs.Spans.{EndsWith};
 
 use crate::comparing::{PlayedLine, compare};
 use crate::explanation::LastExplanation;
-use crate::reports::{begin_refusal, begin_report, tell_long_session};
+use crate::reports::{begin_refusal, begin_report, put_replies, tell_long_session};
 use dbg_base::Call;
 use dbg_command::SessionView;
 use shell_io::{Noted, Sink, Source};
@@ -155,8 +155,8 @@ impl<'a> Tester<'a> {
             notes.add("no line `> REPLY` gives an expected reply")?;
             return Ok((notes, Tested::Unchecked));
         }
-        let replies = Part::Text(if compared == 1 { "reply" } else { "replies" });
-        notes.add_with("ok, {} {}", &[Part::Count(compared), replies])?;
+        notes.add("ok, ")?;
+        put_replies(&mut notes, compared)?;
         Ok((notes, Tested::Passed))
     }
 }

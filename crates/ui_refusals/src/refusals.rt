@@ -29,6 +29,24 @@ fn breakpoint_of(plan: &Plan) -> Option<Name> {
     }
 }
 
+// What the person can do after a refusal that names nothing and does not depend on the command.
+fn remedy_of(refusal: &Refusal) -> Option<&'static str> {
+    match refusal {
+        Refusal::NothingBack => Some(
+            "every accepted command is already taken back; queries and refused lines leave nothing to take back",
+        ),
+        Refusal::ProcessFull => Some("`undo`, `rollback` and `goto` make room for new events"),
+        Refusal::BreaksFull => Some("`clear B` removes one of them"),
+        Refusal::JournalFull => Some(
+            "a new session can begin with the lines that lead here, without those that were taken back",
+        ),
+        Refusal::Memory => Some(
+            "the session is as it was before the line; `clear` and `back` may free memory",
+        ),
+        _ => None,
+    }
+}
+
 impl RefusingSession<'_> {
     // The command of the program that would be made.
     fn choice_of(&self, plan: &Plan) -> Option<Choice> {
@@ -185,20 +203,10 @@ impl RefusingSession<'_> {
                 let seat = Part::Natural(*seat);
                 Ok(notes.say_with("`{} back` takes it back", &[seat])?)
             }
-            Refusal::NothingBack => Ok(notes.say(
-                "every accepted command is already taken back; queries and refused lines leave nothing to take back",
-            )?),
-            Refusal::ProcessFull => Ok(notes.say(
-                "`undo`, `rollback` and `goto` make room for new events",
-            )?),
-            Refusal::BreaksFull => { Ok(notes.say("`clear B` removes one of them")?) }
-            Refusal::JournalFull => Ok(notes.say(
-                "a new session can begin with the lines that lead here, without those that were taken back",
-            )?),
-            Refusal::Memory => Ok(notes.say(
-                "the session is as it was before the line; `clear` and `back` may free memory",
-            )?),
-            _ => Ok(()),
+            _ => match remedy_of(refusal) {
+                Some(words) => Ok(notes.say(words)?),
+                None => Ok(()),
+            },
         }
     }
 

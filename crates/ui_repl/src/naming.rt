@@ -1,12 +1,12 @@
 //! The commands of a program, with the names that its author gave them.
 
 use crate::expanding::{write_fault, write_notes};
-use crate::written_program::{ReadText, WrittenProgram, read_text};
+use crate::program_alone::{ProgramAlone, read_alone};
+use crate::written_program::WrittenProgram;
 use dbg_base::{Choice, Pid};
 use proc_tree::Program;
 use shell_io::{Sink, Source};
 use shell_print::{ServeFault, Served, tell_too_long};
-use shell_serve::{Input, read_program_text, text_alone};
 use std::alloc::{AllocError, Global};
 use ui_text::{Notes, Part, ProgramText};
 
@@ -58,14 +58,12 @@ pub fn name_commands<R: Source, W: Sink, E: Sink>(
     writer: &mut W,
     errors: &mut E,
 ) -> Result<Served, ServeFault> {
-    let mut input = Input::new(alloc)?;
-    let end = read_program_text(&mut input, reader)?;
-    let Some(text) = text_alone(&input, end) else {
-        return tell_too_long(errors);
-    };
-    match read_text(alloc, text)? {
-        ReadText::Program(written, program) => write_commands(alloc, &program, &written, writer),
-        ReadText::Wrong(fault) => write_fault(alloc, text, &fault, errors),
+    match read_alone(alloc, reader)? {
+        ProgramAlone::Program(written, program) => {
+            write_commands(alloc, &program, &written, writer)
+        }
+        ProgramAlone::Wrong(wrong) => write_fault(alloc, wrong.text(), &wrong.fault, errors),
+        ProgramAlone::TooLong => tell_too_long(errors),
     }
 }
 
@@ -95,13 +93,8 @@ pub fn tell_notation<R: Source, E: Sink>(
     reader: &mut R,
     errors: &mut E,
 ) -> Result<(), ServeFault> {
-    let mut input = Input::new(alloc)?;
-    let end = read_program_text(&mut input, reader)?;
-    let Some(text) = text_alone(&input, end) else {
-        return Ok(());
-    };
-    match read_text(alloc, text)? {
-        ReadText::Program(written, _program) => write_hint(alloc, name, &written, errors),
-        ReadText::Wrong(_fault) => Ok(()),
+    match read_alone(alloc, reader)? {
+        ProgramAlone::Program(written, _program) => write_hint(alloc, name, &written, errors),
+        ProgramAlone::Wrong(_) | ProgramAlone::TooLong => Ok(()),
     }
 }

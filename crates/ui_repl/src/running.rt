@@ -8,13 +8,13 @@ ghost use Rattle.ui_repl.specs.Talks.{Talks};
 
 use crate::fault_places::refuse;
 use crate::opening::{OpenSession, Opening, open};
+use crate::program_alone::{ProgramAlone, read_alone};
 use crate::sentences::Sentences;
 use crate::session_lines::SessionLines;
-use crate::written_program::{ReadText, WrittenProgram, read_text};
-use proc_tree::Program;
+use crate::written_program::WrittenProgram;
 use shell_io::{Sink, Source};
 use shell_print::{ServeFault, Served, tell_size, tell_too_long};
-use shell_serve::{Input, play, read_program_text, text_alone};
+use shell_serve::play;
 use std::alloc::Global;
 use ui_session::{Dialogue, Typed};
 
@@ -26,14 +26,10 @@ pub fn explain<R: Source, W: Sink>(
     reader: &mut R,
     writer: &mut W,
 ) -> Result<Served, ServeFault> {
-    let mut input = Input::new(alloc)?;
-    let end = read_program_text(&mut input, reader)?;
-    let Some(text) = text_alone(&input, end) else {
-        return tell_too_long(writer);
-    };
-    match read_text(alloc, text)? {
-        ReadText::Program(_, program) => tell_size(&program, writer),
-        ReadText::Wrong(fault) => refuse(alloc, text, &fault, writer),
+    match read_alone(alloc, reader)? {
+        ProgramAlone::Program(_, program) => tell_size(&program, writer),
+        ProgramAlone::Wrong(wrong) => refuse(alloc, wrong.text(), &wrong.fault, writer),
+        ProgramAlone::TooLong => tell_too_long(writer),
     }
 }
 

@@ -161,12 +161,12 @@ impl<T: Explainer<N>, N> Observer<N> for Dialogue<T> {
             let kept = keep_reply(alloc, view.program, reply, &mut self.reply);
             self.is_out_of_memory |= kept.is_err();
         }
-        let answered = Answered {
+        let answered = Answered::new(
             view,
-            given: line,
-            told: told(&self.commands, reply),
-            reply: self.reply.as_slice(),
-        };
+            line,
+            told(&self.commands, reply),
+            self.reply.as_slice(),
+        );
         let explained = self.explainer.explain(&answered, &mut self.notes);
         self.is_out_of_memory |= explained.is_err();
         count(&mut self.commands, line, reply);

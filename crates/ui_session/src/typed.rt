@@ -8,6 +8,13 @@ pub trait Typed {
     fn is_typed(&self) -> bool;
 }
 
+/// Bytes in memory, which nobody types.
+impl Typed for &[u8] {
+    fn is_typed(&self) -> bool {
+        false
+    }
+}
+
 impl<D: Typed> Typed for Noted<D> {
     fn is_typed(&self) -> bool {
         self.device().is_typed()

@@ -81,6 +81,16 @@ impl EventColumns {
     }
 }
 
+// A message that an event of a process sent or received.
+#[derive(Clone, Copy)]
+struct EventMessage {
+    value: i64,
+    // The process that it was sent to, or the one that sent it.
+    other: Pid,
+    // The number, from 1, of the event that sent it, if this event received it.
+    sender: Option<u32>,
+}
+
 impl ProcessView<'_> {
     fn put_setting(
         &self,
@@ -102,39 +112,43 @@ impl ProcessView<'_> {
         notes.put(&Part::Value(setting.new))
     }
 
-    // Appends the message and where it came from, or went, to the last line, in words.
-    fn put_exchange(
-        &self,
-        notes: &mut Notes,
-        world: &World,
-        word: &'static str,
-        exchange: &Exchange,
-    ) -> Result<(), AllocError> {
-        match *exchange {
-            Exchange::Nothing => Ok(()),
-            Exchange::Sent { target, value, .. } => {
-                let value = Part::Number(value);
-                notes.add_with(
-                    "{}sent {} to {}",
-                    &[Part::Text(word), value, self.process(target)],
-                )
-            }
+    // The message that an event sent or received, if it did.
+    fn message_of(&self, world: &World, event: &Event) -> Option<EventMessage> {
+        match event.exchange() {
+            Exchange::Nothing => None,
+            Exchange::Sent { target, value, .. } => Some(EventMessage {
+                value,
+                other: target,
+                sender: None,
+            }),
             Exchange::Took {
                 source,
                 message,
                 count,
-            } => {
-                let sender = sending(world, source, self.pid, count);
-                notes.add_with(
-                    "{}received {} from {} (sent by its event {})",
-                    &[
-                        Part::Text(word),
-                        Part::Number(message),
-                        self.process(source),
-                        Part::Natural(sender),
-                    ],
-                )
-            }
+            } => Some(EventMessage {
+                value: message,
+                other: source,
+                sender: Some(sending(world, source, self.pid, count)),
+            }),
+        }
+    }
+
+    // Appends the message and where it came from, or went, to the last line, in words.
+    fn put_message(
+        &self,
+        notes: &mut Notes,
+        word: &'static str,
+        message: EventMessage,
+    ) -> Result<(), AllocError> {
+        let word = Part::Text(word);
+        let value = Part::Number(message.value);
+        let other = self.process(message.other);
+        match message.sender {
+            None => notes.add_with("{}sent {} to {}", &[word, value, other]),
+            Some(sender) => notes.add_with(
+                "{}received {} from {} (sent by its event {})",
+                &[word, value, other, Part::Natural(sender)],
+            ),
         }
     }
 
@@ -164,37 +178,23 @@ impl ProcessView<'_> {
         } else {
             ", "
         };
-        self.put_exchange(notes, world, word, &event.exchange())
+        match self.message_of(world, event) {
+            Some(message) => self.put_message(notes, word, message),
+            None => Ok(()),
+        }
     }
 
-    // Appends the message that an event sent or received to the last line, with an arrow that points to the recipient, and the event that
-    // sent it.
-    fn put_arrow(
-        &self,
-        notes: &mut Notes,
-        world: &World,
-        exchange: &Exchange,
-    ) -> Result<(), AllocError> {
-        match *exchange {
-            Exchange::Nothing => Ok(()),
-            Exchange::Sent { target, value, .. } => {
-                notes.put(&Part::Number(value))?;
-                notes.put(&Part::Text(" > "))?;
-                notes.put(&self.process(target))
-            }
-            Exchange::Took {
-                source,
-                message,
-                count,
-            } => {
-                let sender = sending(world, source, self.pid, count);
-                notes.put(&Part::Number(message))?;
-                notes.put(&Part::Text(" < "))?;
-                notes.put(&self.process(source))?;
-                notes.put(&Part::Text(" "))?;
-                notes.put(&Part::Natural(sender))
-            }
+    // Appends a message to the last line, with an arrow that points to the recipient, and the event that sent it.
+    fn put_arrow(&self, notes: &mut Notes, message: EventMessage) -> Result<(), AllocError> {
+        let is_received = message.sender.is_some();
+        notes.put(&Part::Number(message.value))?;
+        notes.put(&Part::Text(if is_received { " < " } else { " > " }))?;
+        notes.put(&self.process(message.other))?;
+        if let Some(sender) = message.sender {
+            notes.put(&Part::Text(" "))?;
+            notes.put(&Part::Natural(sender))?;
         }
+        Ok(())
     }
 }
 
@@ -234,7 +234,9 @@ impl SourceView<'_> {
         notes.put(&Part::Count(number))?;
         if columns.has_messages {
             notes.tab(columns.message)?;
-            scope.put_arrow(notes, world, &event.exchange())?;
+            if let Some(message) = scope.message_of(world, event) {
+                scope.put_arrow(notes, message)?;
+            }
         }
         notes.tab(columns.settings)?;
         if news == EventNews::Undone {

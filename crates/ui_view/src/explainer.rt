@@ -39,6 +39,23 @@ pub struct Answered<'a, N> {
     pub reply: &'a [u8],
 }
 
+impl<'a, N> Answered<'a, N> {
+    /// This was said to a line.
+    pub fn new(
+        view: SessionView<'a>,
+        given: &'a GivenLine<'a, N>,
+        told: Told<'a>,
+        reply: &'a [u8],
+    ) -> Answered<'a, N> {
+        Answered {
+            view,
+            given,
+            told,
+            reply,
+        }
+    }
+}
+
 /// Explains each line of a session, of which its source notes an `N`. It borrows the session, so it does not change it. The default methods
 /// explain nothing. Errors: memory ran out.
 pub trait Explainer<N> {
