@@ -68,20 +68,19 @@ fn sum(rt: &impl Abort, alloc: Global, expr: Expr) -> Expr {
     binary(rt, alloc, Operator::Add, Expr::Variable(0), expr)
 }
 
+// `(not E)`.
+fn not(rt: &impl Abort, alloc: Global, expr: Expr) -> Expr {
+    Expr::Not(boxed(rt, alloc, expr))
+}
+
 // The expression of this form.
 fn formed(rt: &impl Abort, alloc: Global, form: Form, expr: Expr) -> Expr {
     let truth = Expr::Truth(true);
     match form {
         Form::Alone => expr,
-        Form::Not => Expr::Not(boxed(rt, alloc, expr)),
-        Form::NotAnd => {
-            let both = binary(rt, alloc, Operator::And, expr, truth);
-            Expr::Not(boxed(rt, alloc, both))
-        }
-        Form::NotOr => {
-            let either = binary(rt, alloc, Operator::Or, truth, expr);
-            Expr::Not(boxed(rt, alloc, either))
-        }
+        Form::Not => not(rt, alloc, expr),
+        Form::NotAnd => not(rt, alloc, binary(rt, alloc, Operator::And, expr, truth)),
+        Form::NotOr => not(rt, alloc, binary(rt, alloc, Operator::Or, truth, expr)),
         Form::Sum => sum(rt, alloc, expr),
         Form::Equal => equal(rt, alloc, expr),
         Form::MinusEqual => equal(rt, alloc, Expr::Negate(boxed(rt, alloc, expr))),
