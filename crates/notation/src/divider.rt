@@ -1,15 +1,15 @@
 //! How a command line is divided into pieces.
 
-use crate::building::ProcessCopy;
-use crate::expansion::Expansion;
-use crate::fault::{Expanding, ExpansionStop};
-use crate::lexer::has_notation;
-use crate::limits::NESTING;
-use crate::parser::ModelParser;
 use crate::pieces::{LinePiece, LinePieces, Meant, Reading};
-use crate::scope::{ModelNames, ModelScope};
-use crate::syntax::{Binder, DeclarationNode, Expression, Reference};
-use crate::token::{Mark, SourceToken, SourceTokenKind};
+use notation_programs::building::ProcessCopy;
+use notation_programs::expansion::Expansion;
+use notation_tree::fault::{Expanding, ExpansionStop};
+use notation_tree::lexer::has_notation;
+use notation_tree::limits::NESTING;
+use notation_tree::parser::ModelParser;
+use notation_tree::scope::{ModelNames, ModelScope};
+use notation_tree::syntax::{Binder, DeclarationNode, Expression, Reference};
+use notation_tree::token::{Mark, SourceToken, SourceTokenKind};
 use std::alloc::{AllocError, Global};
 
 /// Divides a line into pieces.

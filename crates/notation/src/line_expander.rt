@@ -1,19 +1,19 @@
 //! From command lines to plain lines.
 
 ghost use Rattle.std.specs.Prelude.{length, IfErr};
-ghost use Rattle.notation.specs.Places.{IsInside};
+ghost use Rattle.notation_tree.specs.Places.{IsInside};
 
 use crate::divider::Divider;
-use crate::expansion::{Expansion, failed, failed_in};
-use crate::fault::{Expanding, ExpansionStop, NotationError};
-use crate::lexer::tokens;
-use crate::limits::SESSION_STEPS;
 use crate::pieces::LinePieces;
 use crate::rendering::Renderer;
-use crate::scope::ModelNames;
-use crate::token::SourceToken;
 use dbg_base::Name;
 use dbg_base::limits::LINE_BYTES;
+use notation_programs::expansion::{Expansion, failed, failed_in};
+use notation_tree::fault::{Expanding, ExpansionStop, NotationError};
+use notation_tree::lexer::tokens;
+use notation_tree::limits::SESSION_STEPS;
+use notation_tree::scope::ModelNames;
+use notation_tree::token::SourceToken;
 use std::alloc::{AllocError, Global};
 
 /// Expands the command lines of a session, one after the other. The work for a line depends on the line and its plain lines alone, and on

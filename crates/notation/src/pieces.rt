@@ -1,7 +1,7 @@
 //! What a command line is made of: which of its bytes are replaced, and by what.
 
-use crate::syntax::{Binder, Expression, Reference};
 use dbg_base::Name;
+use notation_tree::syntax::{Binder, Expression, Reference};
 
 /// What replaces some bytes of a line.
 #[derive(Drop)]

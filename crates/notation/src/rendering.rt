@@ -1,18 +1,18 @@
 //! Writes the plain lines of the pieces of a command line.
 
-use crate::building::{ProcessCopy, put_indices};
-use crate::environment::Environment;
-use crate::expansion::Expansion;
-use crate::fault::{Expanding, ExpansionStop, Problem};
-use crate::lexer::tokens;
-use crate::limits::{COPIES, UNFOLDING};
 use crate::pieces::{LinePiece, LinePieces, Meant, Reading};
-use crate::plain_text::PlainText;
-use crate::syntax::{Binder, DeclarationNode, Expression, Reference, place};
-use crate::token::part;
-use crate::writing::Writer;
 use dbg_base::limits::INPUT_BYTES;
 use itoa::Buffer;
+use notation_programs::building::{ProcessCopy, put_indices};
+use notation_programs::environment::Environment;
+use notation_programs::expansion::Expansion;
+use notation_programs::plain_text::PlainText;
+use notation_programs::writing::Writer;
+use notation_tree::fault::{Expanding, ExpansionStop, Problem};
+use notation_tree::lexer::tokens;
+use notation_tree::limits::{COPIES, UNFOLDING};
+use notation_tree::syntax::{Binder, DeclarationNode, Expression, Reference, place};
+use notation_tree::token::part;
 use std::alloc::{AllocError, Global};
 
 /// Writes the plain lines of the pieces of a line.

@@ -1,9 +1,8 @@
 //! Faults in words: what is wrong, and what was probably meant.
 
-use crate::expansion::line_and_column;
-use crate::fault::{Expected, Fault, Meaning, Problem};
-use crate::token::{Mark, mark_text, part};
 use dbg_base::FaultKind;
+use notation_tree::fault::{Expected, Fault, Meaning, Problem};
+use notation_tree::token::{Mark, mark_text, part};
 use std::alloc::{AllocError, Global};
 
 // What is expected.
@@ -165,6 +164,21 @@ fn put_members(line: &mut Vec<u8>, alloc: Global, fault: &Fault) -> Result<(), A
         joint = ", ";
     }
     Ok(())
+}
+
+/// The line and the column of an offset, each from 1.
+pub fn line_and_column(text: &[u8], at: usize) -> (usize, usize) {
+    let mut line = 1usize;
+    let mut column = 1usize;
+    for byte in text.iter().take(at) {
+        if *byte == b'\n' {
+            line = line.saturating_add(1);
+            column = 1;
+        } else {
+            column = column.saturating_add(1);
+        }
+    }
+    (line, column)
 }
 
 // The first byte of the line of an offset, and how many bytes the line has.

@@ -3,13 +3,13 @@
 ghost use Rattle.std.specs.Prelude.{◌≡◌, ℕ, length, IfOk, IfErr};
 ghost use Rattle.dbg_base.specs.Checks.{Reads};
 ghost use Rattle.proc_tree.specs.Programs.{program_of};
-ghost use Rattle.notation.specs.Places.{IsInside};
-ghost use Rattle.notation.specs.Expansions.{model_of, plain_of, source_length};
-ghost use Rattle.notation.specs.ModelPrograms.{ProgramOf};
+ghost use Rattle.notation_tree.specs.Places.{IsInside};
+ghost use Rattle.notation_programs.specs.Expansions.{model_of, plain_of, source_length};
+ghost use Rattle.notation_meaning.specs.ModelPrograms.{ProgramOf};
 
-use crate::agreement::agrees;
-use crate::expansion::{Expansion, expand};
-use crate::fault::{Fault, NotationError, Problem};
+use notation_meaning::agreement::agrees;
+use notation_programs::expansion::{Expansion, expand};
+use notation_tree::fault::{Fault, NotationError, Problem};
 use proc_lang::{ProgError, parse_program};
 use proc_tree::Program;
 use std::alloc::Global;
@@ -25,11 +25,7 @@ pub struct ExpandedProgram {
 fn disagreement(alloc: Global) -> NotationError
     ensures { (bytes : ℕ) → IsInside bytes result }
 {
-    NotationError::Bad(Fault {
-        problem: Problem::Disagreement,
-        at: 0,
-        members: Vec::new(alloc),
-    })
+    NotationError::Bad(Fault::new(Problem::Disagreement, 0, Vec::new(alloc)))
 }
 
 /// The expansion of a program text, and the program as which the process language reads it, or the first fault.

@@ -1,7 +1,0 @@
-use Rattle.notation.specs.ModelPrograms.{variable_item}
-use Rattle.notation.proofs.agreement.items.variable.Goals as goal
-
-pub returns : goal.returns
-returns c item is =
-    let h = rw c.as_slice.ensures.value at c.in_ok-end.ensures in
-    variable_item _ is h.1 h.2

@@ -1,0 +1,25 @@
+-- What names mean in the scopes of the code.
+use Rattle.std.proofs.Common.{◌≡◌, ℕ, ◌-◌, ◌<◌, ◌≤◌, true, List, [], ◌∷◌, length, refl, Some}
+use Rattle.std.specs.Prelude.{nat_le, nat_lt, slice_get}
+use Rattle.std.proofs.lemmas.Bool.{le-leb, lt-ltb}
+use Rattle.notation_tree.specs.declared.syntax.Expression.{Expression}
+use Rattle.notation_meaning.specs.declared.scopes.MemberHere.{MemberHere}
+use Rattle.notation_meaning.specs.ModelScopes.{Scope, Member, Call, member_in, argument_in, is_parameter}
+use Rattle.notation_meaning.specs.AgreementViews.{with_members, last_value}
+
+pub member_within : (ms : List MemberHere) (s : Scope) (n : ℕ) → member_in (with_members ms s) n ≡ last_value ms n (member_in s n)
+member_within [] s n = refl
+member_within (m ∷ ms) s n = member_within ms (Member m.member m.value s) n
+
+pub argument_within : (ms : List MemberHere) (s : Scope) (n : ℕ) → argument_in (with_members ms s) n ≡ argument_in s n
+argument_within [] s n = refl
+argument_within (m ∷ ms) s n = argument_within ms (Member m.member m.value s) n
+
+-- the argument of a parameter of this call
+pub argument_here : (first n : ℕ) (arguments : List Expression) (outer : Scope) (e : Expression) → first ≤ n → n - first < length arguments
+    → slice_get arguments (n - first) ≡ Some e → argument_in (Call first arguments outer) n ≡ Some (record { expression = e; scope = outer })
+argument_here first n arguments outer e le lt there =
+    let a : nat_le first n ≡ true = le-leb first n le in
+    let b : nat_lt (n - first) (length arguments) ≡ true = lt-ltb (n - first) (length arguments) lt in
+    let inside : is_parameter first arguments n ≡ true = rw (a, b) refl in
+    rw (inside, there) refl

@@ -1,0 +1,10 @@
+use Rattle.std.proofs.Common.{◌∙◌, ap}
+use Rattle.notation_meaning.specs.AgreementViews.{constants_of}
+use Rattle.notation_meaning.proofs.AgreementParts.{constant_set}
+use Rattle.notation_meaning.proofs.AgreementPrograms.{constant_done}
+use Rattle.notation_meaning.proofs.items.constant.Goals as goal
+
+pub returns : goal.returns
+returns c item is =
+    constant_done _ _ _ _ _ _ _ _ _ is (rw c.as_slice.ensures.value at c.in_ok-held.ensures)
+    (ap constants_of c.in_ok-set_constant.ensures ∙ constant_set c.args.progress.now.constants.items c.args.node.now.number c.in_ok-held.held)

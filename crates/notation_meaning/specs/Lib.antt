@@ -1,0 +1,6 @@
+pub mod ModelScopes
+pub mod ModelValues
+pub mod PlainExpressions
+pub mod ModelFamilies
+pub mod ModelPrograms
+pub mod AgreementViews

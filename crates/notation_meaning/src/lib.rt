@@ -1,0 +1,21 @@
+//! What a tree of the model notation means, and whether a plain program is that.
+//!
+//! `specs/` defines the meaning, by which this crate compares a tree with a program: both are read side by side, with no text between them.
+#![tactic(auto)]
+
+mod agreement;
+mod commands;
+mod difference;
+mod families;
+mod items;
+mod names;
+mod plain;
+mod programs;
+mod scopes;
+mod setting;
+mod simple;
+mod values;
+mod variables;
+mod written;
+
+pub use agreement::agrees;
