@@ -37,6 +37,13 @@ fn without_comment(line: &[u8]) -> &[u8] {
     }
 }
 
+// This line alone.
+fn only_line(alloc: Global, line: &[u8]) -> Result<Vec<Vec<u8>>, AllocError> {
+    let mut lines = Vec::new(alloc);
+    lines.push(Vec::from_slice(alloc, line)?)?;
+    Ok(lines)
+}
+
 // A fault at its place in the line. What is in the model is shown at the piece that uses it.
 fn placed(stop: ExpansionStop, base: usize, from: usize) -> ExpansionStop {
     match stop {
@@ -135,8 +142,6 @@ impl<'a> LineExpander<'a> {
         if line.len() <= LINE_BYTES && !is_expectation(line) {
             return self.expand_bare(without_comment(line), line.len());
         }
-        let mut lines = Vec::new(self.alloc);
-        lines.push(Vec::from_slice(self.alloc, line)?)?;
-        Ok(lines)
+        Ok(only_line(self.alloc, line)?)
     }
 }

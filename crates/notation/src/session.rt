@@ -7,7 +7,7 @@ ghost use Rattle.notation_tree.specs.Places.{IsInside};
 ghost use Rattle.notation_programs.specs.Expansions.{model_of, plain_of, source_length};
 ghost use Rattle.notation_meaning.specs.ModelPrograms.{ProgramOf};
 
-use notation_meaning::agreement::agrees;
+use notation_meaning::agrees;
 use notation_programs::expansion::{Expansion, expand};
 use notation_tree::fault::{Fault, NotationError, Problem};
 use proc_lang::{ProgError, parse_program};

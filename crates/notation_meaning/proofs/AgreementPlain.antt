@@ -8,13 +8,14 @@ use Rattle.dbg_base.specs.Evaluation.{Value, Num, Tru}
 use Rattle.dbg_base.specs.Trees.{Tree, Truth, Binary}
 use Rattle.notation_tree.specs.declared.syntax.Expression.{Expression}
 use Rattle.notation_tree.specs.declared.syntax.Link.{Link, out-Link}
-use Rattle.notation_tree.specs.declared.syntax.Reference.{Reference, out-Reference}
+use Rattle.notation_tree.specs.declared.syntax.Reference.{Reference}
 use Rattle.notation_tree.specs.declared.syntax.Binder.{out-Binder}
 use Rattle.notation_tree.specs.declared.syntax.Each.{Each, out-Each}
 use Rattle.notation_meaning.specs.ModelScopes.{Context, Scope, Member}
 use Rattle.notation_meaning.specs.ModelValues.{HasValue}
 use Rattle.notation_meaning.specs.PlainExpressions.{Setting, IsWritten, word, indexed, HasName, no_indices, more_indices, Names, Stands, ChainStands}
 use Rattle.notation_meaning.specs.PlainExpressions.{first_operand, last_operand, Joined, no_members, one_member, halves, AtLeast, either}
+use Rattle.notation_meaning.specs.AgreementViews.{IsNamed}
 
 -- a truth value, as it is written
 pub truth_written : {b : Bool} {t : Tree} → IsWritten (Tru b) t → t ≡ Truth b
@@ -32,11 +33,9 @@ module _ (K : Context) (s : Scope) where
       let held : HasValue K s index (Num (pos n)) = subst (λ z. HasValue K s index (Num z)) v h in
       rw e (more_indices held there)
 
-  pub names_element : {reference : Reference} {names : List (List ℕ)} {number : ℕ} {whole found : List ℕ}
-      → HasName K s (out-Reference reference).name (out-Reference reference).indices.items whole → slice_get names number ≡ Some found
-      → found ≡ whole → Names K s reference names number
-  names_element {reference} {names} {number} {whole} {found} h there e =
-      record { name = whole; named = h; there = there ∙ ap Some e }
+  pub names_element : {reference : Reference} {names : List (List ℕ)} {number : ℕ} {whole : List ℕ} → IsNamed K s reference whole
+      → slice_get names number ≡ Some whole → Names K s reference names number
+  names_element {reference} {names} {number} {whole} h there = record { name = whole; named = h; there = there }
 
 module _ (S : Setting) (s : Scope) where
   pub chain_end : {e : Expression} {t : Tree} (links : List Link) → length links ≡ 0 → Stands S s e t → ChainStands S s e links t

@@ -1,3 +1,4 @@
+mod Outcomes
 mod AgreementLemmas
 mod AgreementPlain
 mod AgreementWritten

@@ -3,6 +3,7 @@ use Rattle.std.specs.Prelude.{ℕ, ℤ, ◌==◌, List, [], ◌∷◌, ◌++◌,
 use Rattle.std.specs.Option.{option_map}
 use Rattle.dbg_base.specs.Trees.{Process, process_of, names_of}
 use Rattle.proc_tree.specs.Programs.{program_of}
+use Rattle.notation_tree.specs.declared.arithmetic.ConstantValue.{ConstantValue}
 use Rattle.notation_tree.specs.ComputedValues.{value_of}
 use Rattle.notation_meaning.specs.declared.scopes.MemberHere.{MemberHere}
 use Rattle.notation_meaning.specs.declared.scopes.PlaceScope as code
@@ -10,13 +11,14 @@ use Rattle.notation_meaning.specs.declared.scopes.PlaceScope.TheVariants as code
 use Rattle.notation_meaning.specs.declared.families.FamilyPlace.{FamilyPlace}
 use Rattle.notation_meaning.specs.declared.setting.Known.{Known}
 use Rattle.notation_meaning.specs.declared.setting.PlainSetting.{PlainSetting}
-use Rattle.notation_meaning.specs.declared.items.ProcessHere.{ProcessHere}
+use Rattle.notation_meaning.specs.declared.setting.ProcessHere.{ProcessHere}
 use Rattle.notation_meaning.specs.declared.items.PlainProgress.{PlainProgress}
-use Rattle.notation_meaning.specs.declared.programs.ModelHere.{ModelHere}
+use Rattle.notation_meaning.specs.declared.setting.ModelHere.{ModelHere}
 use Rattle.notation_meaning.specs.declared.programs.ProgramProgress.{ProgramProgress}
+use Rattle.notation_tree.specs.declared.syntax.Reference.{Reference, out-Reference}
 use Rattle.notation_meaning.specs.ModelScopes.{Constants, Context, Scope, Top, Member, Call}
 use Rattle.notation_meaning.specs.ModelFamilies.{Place}
-use Rattle.notation_meaning.specs.PlainExpressions.{Setting}
+use Rattle.notation_meaning.specs.PlainExpressions.{Setting, HasName}
 use Rattle.notation_meaning.specs.ModelPrograms.{Frame, Progress, ModelProgress}
 
 -- the values of constants
@@ -60,6 +62,10 @@ longer_members members number = map (λ z. members ++ (record { member = number;
 abbrev pub context_of : Known → Context
 context_of known = record { definitions = known.definitions.now; constants = constants_of known.constants.now }
 
+-- the plain name of a reference is this one
+abbrev pub IsNamed : Context → Scope → Reference → List ℕ → Type 0
+IsNamed K s reference = HasName K s (out-Reference reference).name (out-Reference reference).indices.items
+
 -- what an expression refers to
 abbrev pub setting_of : PlainSetting → Setting
 setting_of code = record {
@@ -70,13 +76,13 @@ setting_of code = record {
 
 -- the process that is compared
 abbrev pub own_process : ProcessHere → Process
-own_process here = process_of (program_of here.program.now) here.own.0
+own_process here = process_of (program_of here.model.program.now) here.own.0
 
 -- what is the same for all items of a process
 abbrev pub frame_of : ProcessHere → Frame
 frame_of here = record {
-  definitions = here.definitions.now;
-  processes = names_of (program_of here.program.now);
+  definitions = here.model.definitions.now;
+  processes = names_of (program_of here.model.program.now);
   variables = map (λ variable. variable.0) (own_process here).variables;
 }
 

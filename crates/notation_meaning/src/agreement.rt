@@ -4,9 +4,10 @@ ghost use Rattle.std.specs.Prelude.{◌≡◌, replicate, IfOk, IsTrue};
 ghost use Rattle.proc_tree.specs.Programs.{program_of};
 ghost use Rattle.notation_meaning.specs.ModelPrograms.{ProgramOf};
 
-use crate::difference::Difference;
-use crate::programs::{ModelHere, ProgramProgress, declarations};
+use crate::programs::{ProgramProgress, declarations};
+use crate::setting::ModelHere;
 use notation_tree::arithmetic::ConstantValue;
+use notation_tree::fault::ExpansionStop;
 use notation_tree::model::ParsedModel;
 use proc_tree::Program;
 use std::alloc::{AllocError, Global};
@@ -37,7 +38,7 @@ pub fn agrees(alloc: Global, model: &ParsedModel, program: &Program) -> Result<b
     };
     match declarations(&here, model.declarations.as_slice(), start) {
         Ok(end) => Ok(end.processes == program.processes()),
-        Err(Difference::Memory) => Err(AllocError),
-        Err(Difference::Found) => Ok(false),
+        Err(ExpansionStop::Memory) => Err(AllocError),
+        Err(ExpansionStop::Bad(_, _)) => Ok(false),
     }
 }

@@ -5,11 +5,12 @@ ghost use Rattle.proc_tree.specs.ProcessTrees.{action_tree, assignment_trees, co
 ghost use Rattle.notation_meaning.specs.ModelPrograms.{AssignmentsOf, ActionOf, CommandOf};
 ghost use Rattle.notation_meaning.specs.AgreementViews.{scope_of, setting_of};
 
-use crate::difference::{Difference, deeper};
+use crate::difference::{DIFFERENT, deeper};
 use crate::plain::stands;
 use crate::scopes::PlaceScope;
 use crate::setting::PlainSetting;
 use crate::written::{names_process, names_variable};
+use notation_tree::fault::Expanding;
 use notation_tree::syntax::{ActionNode, AssignmentNode, CommandNode};
 use proc_tree::{Action, Assignment, Guarded};
 
@@ -20,25 +21,24 @@ fn assignments(
     nodes: &[AssignmentNode],
     found: &[Assignment],
     depth: u32,
-) -> Result<(), Difference>
+) -> Expanding<()>
     ensures { IfOk result (λ _. AssignmentsOf (setting_of setting.now) (scope_of scope.now) nodes.now (assignment_trees found.now)) }
 {
     let inner = deeper(depth)?;
     match nodes.split_first() {
         None => {
             if found.len() != 0 {
-                return Err(Difference::Found);
+                return Err(DIFFERENT);
             }
             Ok(())
         }
         Some((node, others)) => {
             let Some((first, rest)) = found.split_first() else {
-                return Err(Difference::Found);
+                return Err(DIFFERENT);
             };
             names_variable(setting, scope, &node.target, first.variable, inner)?;
             stands(setting, scope, &node.value, &first.value, inner)?;
-            assignments(setting, scope, others, rest, inner)?;
-            Ok(())
+            assignments(setting, scope, others, rest, inner)
         }
     }
 }
@@ -50,32 +50,20 @@ fn is_action(
     node: &ActionNode,
     found: &Action,
     depth: u32,
-) -> Result<(), Difference>
+) -> Expanding<()>
     ensures { IfOk result (λ _. ActionOf (setting_of setting.now) (scope_of scope.now) node.now (action_tree found.now)) }
 {
-    match node {
-        ActionNode::Local => {
-            let Action::Local = found else {
-                return Err(Difference::Found);
-            };
-            Ok(())
-        }
-        ActionNode::Send(_, to, sent) => {
-            let Action::Send { target, value } = found else {
-                return Err(Difference::Found);
-            };
+    match (node, found) {
+        (ActionNode::Local, Action::Local) => Ok(()),
+        (ActionNode::Send(_, to, sent), Action::Send { target, value }) => {
             names_process(setting, scope, to, *target, depth)?;
-            stands(setting, scope, sent, value, depth)?;
-            Ok(())
+            stands(setting, scope, sent, value, depth)
         }
-        ActionNode::Receive(_, from, into) => {
-            let Action::Receive { source, variable } = found else {
-                return Err(Difference::Found);
-            };
+        (ActionNode::Receive(_, from, into), Action::Receive { source, variable }) => {
             names_process(setting, scope, from, *source, depth)?;
-            names_variable(setting, scope, into, *variable, depth)?;
-            Ok(())
+            names_variable(setting, scope, into, *variable, depth)
         }
+        _ => Err(DIFFERENT),
     }
 }
 
@@ -86,7 +74,7 @@ pub(crate) fn is_command(
     node: &CommandNode,
     found: &Guarded,
     depth: u32,
-) -> Result<(), Difference>
+) -> Expanding<()>
     ensures { IfOk result (λ _. CommandOf (setting_of setting.now) (scope_of scope.now) node.now (command_tree found.now)) }
 {
     stands(setting, scope, &node.guard, &found.guard, depth)?;
@@ -97,6 +85,5 @@ pub(crate) fn is_command(
         node.assignments.as_slice(),
         found.assignments.items(),
         depth,
-    )?;
-    Ok(())
+    )
 }

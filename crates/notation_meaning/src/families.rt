@@ -4,10 +4,10 @@ ghost use Rattle.std.specs.Prelude.{◌≡◌, [], ◌∷◌, ◌++◌, map, IfO
 ghost use Rattle.notation_meaning.specs.ModelFamilies.{place_in, PlacesOfRange, PlacesOf};
 ghost use Rattle.notation_meaning.specs.AgreementViews.{context_of, scope_of, places_of, members_of, longer_members};
 
-use crate::difference::Difference;
 use crate::scopes::{MemberHere, PlaceScope};
 use crate::setting::Known;
 use crate::values::members;
+use notation_tree::fault::Expanding;
 use notation_tree::syntax::Binder;
 use std::alloc::Global;
 
@@ -24,7 +24,7 @@ fn put_places(
     place: &[MemberHere],
     member: usize,
     values: &[i64],
-) -> Result<(), Difference>
+) -> Expanding<()>
     ensures { IfOk result (λ _. map members_of found.new.items
         ≡ map members_of found.old.items ++ longer_members place.now member values.now) }
 {
@@ -46,7 +46,7 @@ fn longer(
     binder: &Binder,
     places: &[FamilyPlace],
     depth: u32,
-) -> Result<Vec<FamilyPlace>, Difference>
+) -> Expanding<Vec<FamilyPlace>>
     ensures { IfOk result (λ found. PlacesOfRange (context_of known.now) binder.now (places_of (scope_of scope.now) places.now)
         (places_of (scope_of scope.now) found.items)) }
 {
@@ -73,7 +73,7 @@ pub(crate) fn places(
     scope: &PlaceScope<'_>,
     ranges: &[Binder],
     depth: u32,
-) -> Result<Vec<FamilyPlace>, Difference>
+) -> Expanding<Vec<FamilyPlace>>
     ensures { IfOk result (λ found. PlacesOf (context_of known.now) (place_in (scope_of scope.now) ∷ []) ranges.now
         (places_of (scope_of scope.now) found.items)) }
 {

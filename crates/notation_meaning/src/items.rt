@@ -8,25 +8,15 @@ ghost use Rattle.notation_meaning.specs.ModelPrograms.{setting_in, ItemOf, Items
 ghost use Rattle.notation_meaning.specs.AgreementViews.{constants_of, scope_of, frame_of, progress_of};
 
 use crate::commands::is_command;
-use crate::difference::{DEPTH, Difference, deeper};
+use crate::difference::{DEPTH, DIFFERENT, deeper};
 use crate::scopes::PlaceScope;
-use crate::setting::{Known, PlainSetting};
+use crate::setting::ProcessHere;
 use crate::values::{members, value};
 use crate::variables::{after, variables};
-use dbg_base::{Choice, Pid};
+use dbg_base::Choice;
 use notation_tree::arithmetic::ConstantValue;
-use notation_tree::syntax::{Binder, CommandNode, Constant, Definition, ItemNode, VariableNode};
-use proc_tree::Program;
-use std::alloc::Global;
-
-/// What is the same for all items of a process: the definitions of the model, the plain program, and the number of the process there.
-#[derive(Clone, Copy)]
-pub(crate) struct ProcessHere<'a> {
-    pub(crate) alloc: Global,
-    pub(crate) definitions: &'a [Definition],
-    pub(crate) program: &'a Program,
-    pub(crate) own: Pid,
-}
+use notation_tree::fault::Expanding;
+use notation_tree::syntax::{Binder, CommandNode, Constant, ItemNode, VariableNode};
 
 /// What the items so far are: the values of constants, and so many variables and commands of the process.
 #[derive(Drop)]
@@ -41,11 +31,11 @@ pub(crate) fn set_constant(
     constants: &mut Vec<Option<ConstantValue>>,
     number: usize,
     value: ConstantValue,
-) -> Result<(), Difference>
+) -> Expanding<()>
     ensures { IfOk result (λ _. constants.new.items ≡ slice_set constants.old.items number (Some value)) }
 {
     if number >= constants.len() {
-        return Err(Difference::Found);
+        return Err(DIFFERENT);
     }
     constants[number] = Some(value);
     Ok(())
@@ -57,18 +47,13 @@ fn constant(
     scope: &PlaceScope<'_>,
     node: &Constant,
     progress: &mut PlainProgress,
-) -> Result<(), Difference>
+) -> Expanding<()>
     ensures { IfOk result (λ _. (item : ItemNode) → out-ItemNode item ≡ opened.Constant node.now
         → ItemOf (frame_of here.now) (scope_of scope.now) item (progress_of here.now progress.old) (progress_of here.now progress.new)) }
 {
-    let known = Known {
-        alloc: here.alloc,
-        definitions: here.definitions,
-        constants: progress.constants.as_slice(),
-    };
+    let known = here.model.known(progress.constants.as_slice());
     let held = value(&known, scope, &node.value, DEPTH)?;
-    set_constant(&mut progress.constants, node.number, held)?;
-    Ok(())
+    set_constant(&mut progress.constants, node.number, held)
 }
 
 // Compares a variable, or a family of variables.
@@ -77,19 +62,11 @@ fn variable(
     scope: &PlaceScope<'_>,
     node: &VariableNode,
     progress: &mut PlainProgress,
-) -> Result<(), Difference>
+) -> Expanding<()>
     ensures { IfOk result (λ _. (item : ItemNode) → out-ItemNode item ≡ opened.Variable node.now
         → ItemOf (frame_of here.now) (scope_of scope.now) item (progress_of here.now progress.old) (progress_of here.now progress.new)) }
 {
-    let setting = PlainSetting {
-        known: Known {
-            alloc: here.alloc,
-            definitions: here.definitions,
-            constants: progress.constants.as_slice(),
-        },
-        program: here.program,
-        own: here.own,
-    };
+    let setting = here.setting(progress.constants.as_slice());
     let end = variables(&setting, scope, node, progress.variables)?;
     progress.variables = end;
     Ok(())
@@ -101,21 +78,14 @@ fn command(
     scope: &PlaceScope<'_>,
     node: &CommandNode,
     progress: &mut PlainProgress,
-) -> Result<(), Difference>
+) -> Expanding<()>
     ensures { IfOk result (λ _. (item : ItemNode) → out-ItemNode item ≡ opened.Command node.now
         → ItemOf (frame_of here.now) (scope_of scope.now) item (progress_of here.now progress.old) (progress_of here.now progress.new)) }
 {
-    let setting = PlainSetting {
-        known: Known {
-            alloc: here.alloc,
-            definitions: here.definitions,
-            constants: progress.constants.as_slice(),
-        },
-        program: here.program,
-        own: here.own,
-    };
-    let Some(found) = here.program.command(here.own, Choice(progress.commands)) else {
-        return Err(Difference::Found);
+    let setting = here.setting(progress.constants.as_slice());
+    let program = here.model.program;
+    let Some(found) = program.command(here.own, Choice(progress.commands)) else {
+        return Err(DIFFERENT);
     };
     is_command(&setting, scope, node, found, DEPTH)?;
     let end = after(progress.commands)?;
@@ -129,17 +99,12 @@ fn range(
     scope: &PlaceScope<'_>,
     binder: &Binder,
     progress: &PlainProgress,
-) -> Result<Vec<i64>, Difference>
+) -> Expanding<Vec<i64>>
     ensures { IfOk result (λ ms. HasMembers (setting_in (frame_of here.now) (constants_of progress.now.constants.items)).context
         (scope_of scope.now) binder.now ms.items) }
 {
-    let known = Known {
-        alloc: here.alloc,
-        definitions: here.definitions,
-        constants: progress.constants.as_slice(),
-    };
-    let found = members(&known, scope, binder, DEPTH)?;
-    Ok(found)
+    let known = here.model.known(progress.constants.as_slice());
+    members(&known, scope, binder, DEPTH)
 }
 
 // Compares an item.
@@ -150,24 +115,15 @@ fn item(
     node: &ItemNode,
     progress: &mut PlainProgress,
     depth: u32,
-) -> Result<(), Difference>
+) -> Expanding<()>
     ensures { IfOk result (λ _. ItemOf (frame_of here.now) (scope_of scope.now) node.now
         (progress_of here.now progress.old) (progress_of here.now progress.new)) }
 {
     let inner = deeper(depth)?;
     match node {
-        ItemNode::Constant(node) => {
-            constant(here, scope, node, progress)?;
-            Ok(())
-        }
-        ItemNode::Variable(node) => {
-            variable(here, scope, node, progress)?;
-            Ok(())
-        }
-        ItemNode::Command(node) => {
-            command(here, scope, node, progress)?;
-            Ok(())
-        }
+        ItemNode::Constant(node) => constant(here, scope, node, progress),
+        ItemNode::Variable(node) => variable(here, scope, node, progress),
+        ItemNode::Command(node) => command(here, scope, node, progress),
         ItemNode::Repeat(binder, repeated) => {
             let found = range(here, scope, binder, &*progress)?;
             copies(
@@ -178,8 +134,7 @@ fn item(
                 found.as_slice(),
                 progress,
                 inner,
-            )?;
-            Ok(())
+            )
         }
     }
 }
@@ -192,7 +147,7 @@ pub(crate) fn items(
     nodes: &[ItemNode],
     progress: &mut PlainProgress,
     depth: u32,
-) -> Result<(), Difference>
+) -> Expanding<()>
     ensures { IfOk result (λ _. ItemsOf (frame_of here.now) (scope_of scope.now) nodes.now
         (progress_of here.now progress.old) (progress_of here.now progress.new)) }
 {
@@ -215,7 +170,7 @@ fn copies(
     members: &[i64],
     progress: &mut PlainProgress,
     depth: u32,
-) -> Result<(), Difference>
+) -> Expanding<()>
     ensures { IfOk result (λ _. CopiesOf (frame_of here.now) (scope_of scope.now) binder.now nodes.now members.now
         (progress_of here.now progress.old) (progress_of here.now progress.new)) }
 {

@@ -1,20 +1,22 @@
 //! Names with indices.
 
-ghost use Rattle.std.specs.Prelude.{◌≡◌, map, pos, IfOk, IsTrue};
+ghost use Rattle.std.specs.Prelude.{◌≡◌, map, pos, Some, IfOk};
 ghost use Rattle.notation_meaning.specs.AgreementViews.{context_of, scope_of};
 ghost use Rattle.notation_meaning.specs.ModelFamilies.{IsIndexed};
 ghost use Rattle.notation_meaning.specs.PlainExpressions.{indexed, HasName};
 
-use crate::difference::{Difference, deeper};
+use crate::difference::{DIFFERENT, deeper};
 use crate::scopes::{MemberHere, PlaceScope};
 use crate::setting::Known;
 use crate::values::number;
+use dbg_base::Name;
 use itoa::Buffer;
+use notation_tree::fault::Expanding;
 use notation_tree::syntax::Expression;
 use std::alloc::Global;
 
 /// The name with one more index.
-pub(crate) fn with_index(name: Vec<u8>, index: u64) -> Result<Vec<u8>, Difference>
+pub(crate) fn with_index(name: Vec<u8>, index: u64) -> Expanding<Vec<u8>>
     ensures { IfOk result (λ whole. whole.items ≡ indexed name.items index) }
 {
     let mut whole = name;
@@ -25,12 +27,12 @@ pub(crate) fn with_index(name: Vec<u8>, index: u64) -> Result<Vec<u8>, Differenc
 }
 
 /// A number that is not below 0.
-pub(crate) fn index_of(number: i64) -> Result<u64, Difference>
+pub(crate) fn index_of(number: i64) -> Expanding<u64>
     ensures { IfOk result (λ n. number ≡ pos n) }
 {
     match u64::try_from(number) {
         Ok(index) => Ok(index),
-        Err(_) => Err(Difference::Found),
+        Err(_) => Err(DIFFERENT),
     }
 }
 
@@ -41,7 +43,7 @@ pub(crate) fn named(
     name: Vec<u8>,
     indices: &[Expression],
     depth: u32,
-) -> Result<Vec<u8>, Difference>
+) -> Expanding<Vec<u8>>
     ensures { IfOk result (λ whole. HasName (context_of known.now) (scope_of scope.now) name.items indices.now whole.items) }
 {
     let inner = deeper(depth)?;
@@ -51,25 +53,23 @@ pub(crate) fn named(
             let value = number(known, scope, first, inner)?;
             let index = index_of(value)?;
             let longer = with_index(name, index)?;
-            let whole = named(known, scope, longer, others, inner)?;
-            Ok(whole)
+            named(known, scope, longer, others, inner)
         }
     }
 }
 
-/// Whether two names are the same.
-pub(crate) fn is_same(one: &[u8], other: &[u8]) -> bool
-    ensures { IsTrue result → one.now ≡ other.now }
+/// Whether what the plain program has is there, and has this name.
+pub(crate) fn check_name(found: Option<Name>, name: &[u8]) -> Expanding<()>
+    ensures { IfOk result (λ _. found ≡ Some name.now) }
 {
-    one == other
+    match found {
+        Some(found) if found.bytes() == name => Ok(()),
+        _ => Err(DIFFERENT),
+    }
 }
 
 /// The name of a member of a family: the name with the values of these members.
-pub(crate) fn member_name(
-    alloc: Global,
-    name: &[u8],
-    members: &[MemberHere],
-) -> Result<Vec<u8>, Difference>
+pub(crate) fn member_name(alloc: Global, name: &[u8], members: &[MemberHere]) -> Expanding<Vec<u8>>
     ensures { IfOk result (λ whole. IsIndexed name.now (map (λ m. m.value) members.now) whole.items) }
 {
     let mut whole = Vec::from_slice(alloc, name)?;

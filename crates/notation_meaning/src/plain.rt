@@ -6,7 +6,7 @@ ghost use Rattle.notation_tree.specs.ComputedValues.{value_of};
 ghost use Rattle.notation_meaning.specs.AgreementViews.{scope_of, setting_of};
 ghost use Rattle.notation_meaning.specs.PlainExpressions.{Stands, FormStands, ChainStands, Joined, AtLeast};
 
-use crate::difference::{Difference, deeper};
+use crate::difference::{DIFFERENT, deeper};
 use crate::scopes::{PlaceScope, argument};
 use crate::setting::{PlainSetting, callee};
 use crate::simple::simple_value;
@@ -14,7 +14,31 @@ use crate::values::{count_of, members, number};
 use crate::written::{is_count, is_variable, is_written, operand_of_minus, operand_of_not};
 use dbg_base::{Expr, Operator};
 use notation_tree::arithmetic::ConstantValue;
+use notation_tree::fault::Expanding;
 use notation_tree::syntax::{Each, Expression, FormNode, Link};
+
+// How the expressions of members are joined, and the value where there are no members.
+#[derive(Clone, Copy)]
+struct Joint {
+    operator: Operator,
+    nothing: ConstantValue,
+}
+
+// How `sum` joins.
+const TOTAL: Joint = Joint {
+    operator: Operator::Add,
+    nothing: ConstantValue::Number(0),
+};
+// How `all` joins.
+const EVERY: Joint = Joint {
+    operator: Operator::And,
+    nothing: ConstantValue::Truth(true),
+};
+// How `some` joins.
+const ANY: Joint = Joint {
+    operator: Operator::Or,
+    nothing: ConstantValue::Truth(false),
+};
 
 // Whether two operators are the same.
 fn is_operator(one: Operator, other: Operator) -> bool
@@ -31,55 +55,42 @@ pub(crate) fn stands(
     expression: &Expression,
     tree: &Expr,
     depth: u32,
-) -> Result<(), Difference>
+) -> Expanding<()>
     ensures { IfOk result (λ _. Stands (setting_of setting.now) (scope_of scope.now) expression.now (tree_of tree.now)) }
 {
     let inner = deeper(depth)?;
     if let Some(value) = simple_value(&setting.known, scope, expression) {
-        is_written(value, tree)?;
-        return Ok(());
+        return is_written(value, tree);
     }
     match expression {
         Expression::Parameter(_, number) => {
             let Some(meant) = argument(&*scope, *number) else {
-                return Err(Difference::Found);
+                return Err(DIFFERENT);
             };
-            stands(setting, meant.scope, meant.expression, tree, inner)?;
-            Ok(())
+            stands(setting, meant.scope, meant.expression, tree, inner)
         }
-        Expression::Name(reference) => {
-            is_variable(setting, scope, reference, tree, inner)?;
-            Ok(())
-        }
+        Expression::Name(reference) => is_variable(setting, scope, reference, tree, inner),
         Expression::Count(_, direction, other) => {
-            is_count(setting, scope, *direction, other, tree, inner)?;
-            Ok(())
+            is_count(setting, scope, *direction, other, tree, inner)
         }
         Expression::Call(_, number, arguments) => {
             let definition = callee(&setting.known, *number, arguments.as_slice())?;
             let within = PlaceScope::Call(definition.first, arguments.as_slice(), &*scope);
-            stands(setting, &within, &definition.body, tree, inner)?;
-            Ok(())
+            stands(setting, &within, &definition.body, tree, inner)
         }
         Expression::Not(_, operand) => {
             let found = operand_of_not(tree)?;
-            stands(setting, scope, operand, found, inner)?;
-            Ok(())
+            stands(setting, scope, operand, found, inner)
         }
         Expression::Negate(_, operand) => {
             let found = operand_of_minus(tree)?;
-            stands(setting, scope, operand, found, inner)?;
-            Ok(())
+            stands(setting, scope, operand, found, inner)
         }
         Expression::Chain(_, first, links) => {
-            chain_stands(setting, scope, first, links.as_slice(), tree, inner)?;
-            Ok(())
+            chain_stands(setting, scope, first, links.as_slice(), tree, inner)
         }
-        Expression::Each(each) => {
-            form_stands(setting, scope, each, tree, inner)?;
-            Ok(())
-        }
-        _ => Err(Difference::Found),
+        Expression::Each(each) => form_stands(setting, scope, each, tree, inner),
+        _ => Err(DIFFERENT),
     }
 }
 
@@ -91,62 +102,22 @@ fn form_stands(
     each: &Each,
     tree: &Expr,
     depth: u32,
-) -> Result<(), Difference>
+) -> Expanding<()>
     ensures { IfOk result (λ _. FormStands (setting_of setting.now) (scope_of scope.now) each.now (tree_of tree.now)) }
 {
     let inner = deeper(depth)?;
     let found = members(&setting.known, scope, &each.binder, inner)?;
     let members = found.as_slice();
     match each.form {
-        FormNode::Sum => {
-            let nothing = ConstantValue::Number(0);
-            joined(
-                setting,
-                scope,
-                each,
-                Operator::Add,
-                nothing,
-                members,
-                tree,
-                inner,
-            )?;
-            Ok(())
-        }
-        FormNode::All => {
-            let nothing = ConstantValue::Truth(true);
-            joined(
-                setting,
-                scope,
-                each,
-                Operator::And,
-                nothing,
-                members,
-                tree,
-                inner,
-            )?;
-            Ok(())
-        }
-        FormNode::Some => {
-            let nothing = ConstantValue::Truth(false);
-            joined(
-                setting,
-                scope,
-                each,
-                Operator::Or,
-                nothing,
-                members,
-                tree,
-                inner,
-            )?;
-            Ok(())
-        }
+        FormNode::Sum => joined(setting, scope, each, TOTAL, members, tree, inner),
+        FormNode::All => joined(setting, scope, each, EVERY, members, tree, inner),
+        FormNode::Some => joined(setting, scope, each, ANY, members, tree, inner),
         FormNode::AtLeast => {
             let Some(least) = &each.least else {
-                return Err(Difference::Found);
+                return Err(DIFFERENT);
             };
             let wanted = number(&setting.known, scope, least, inner)?;
-            at_least(setting, scope, each, wanted, members, tree, inner)?;
-            Ok(())
+            at_least(setting, scope, each, wanted, members, tree, inner)
         }
     }
 }
@@ -160,25 +131,21 @@ fn chain_stands(
     links: &[Link],
     tree: &Expr,
     depth: u32,
-) -> Result<(), Difference>
+) -> Expanding<()>
     ensures { IfOk result (λ _. ChainStands (setting_of setting.now) (scope_of scope.now) first.now links.now (tree_of tree.now)) }
 {
     let inner = deeper(depth)?;
     match links.split_last() {
-        None => {
-            stands(setting, scope, first, tree, inner)?;
-            Ok(())
-        }
+        None => stands(setting, scope, first, tree, inner),
         Some((link, before)) => {
             let Expr::Binary(operator, left, right) = tree else {
-                return Err(Difference::Found);
+                return Err(DIFFERENT);
             };
             if !is_operator(link.operator, *operator) {
-                return Err(Difference::Found);
+                return Err(DIFFERENT);
             }
             chain_stands(setting, scope, first, before, left, inner)?;
-            stands(setting, scope, &link.operand, right, inner)?;
-            Ok(())
+            stands(setting, scope, &link.operand, right, inner)
         }
     }
 }
@@ -189,37 +156,31 @@ fn joined(
     setting: &PlainSetting<'_>,
     scope: &PlaceScope<'_>,
     each: &Each,
-    operator: Operator,
-    nothing: ConstantValue,
+    joint: Joint,
     members: &[i64],
     tree: &Expr,
     depth: u32,
-) -> Result<(), Difference>
-    ensures { IfOk result (λ _. Joined (setting_of setting.now) (scope_of scope.now) each.now operator (value_of nothing) members.now
+) -> Expanding<()>
+    ensures { IfOk result (λ _. Joined (setting_of setting.now) (scope_of scope.now) each.now joint.operator (value_of joint.nothing) members.now
         (tree_of tree.now)) }
 {
     let inner = deeper(depth)?;
     match members.split_first() {
-        None => {
-            is_written(nothing, tree)?;
-            Ok(())
-        }
+        None => is_written(joint.nothing, tree),
         Some((only, others)) => {
             if others.len() == 0 {
                 let within = PlaceScope::Member(each.binder.member, *only, &*scope);
-                stands(setting, &within, &each.body, tree, inner)?;
-                return Ok(());
+                return stands(setting, &within, &each.body, tree, inner);
             }
             let Expr::Binary(found, left, right) = tree else {
-                return Err(Difference::Found);
+                return Err(DIFFERENT);
             };
-            if !is_operator(operator, *found) {
-                return Err(Difference::Found);
+            if !is_operator(joint.operator, *found) {
+                return Err(DIFFERENT);
             }
             let (prefix, rest) = members.split_at(members.len() - members.len() / 2);
-            joined(setting, scope, each, operator, nothing, prefix, left, inner)?;
-            joined(setting, scope, each, operator, nothing, rest, right, inner)?;
-            Ok(())
+            joined(setting, scope, each, joint, prefix, left, inner)?;
+            joined(setting, scope, each, joint, rest, right, inner)
         }
     }
 }
@@ -234,49 +195,24 @@ fn at_least(
     members: &[i64],
     tree: &Expr,
     depth: u32,
-) -> Result<(), Difference>
+) -> Expanding<()>
     ensures { IfOk result (λ _. AtLeast (setting_of setting.now) (scope_of scope.now) each.now least members.now (tree_of tree.now)) }
 {
     let inner = deeper(depth)?;
     let count = count_of(members)?;
     if least <= 0 {
-        is_written(ConstantValue::Truth(true), tree)?;
-        return Ok(());
+        return is_written(ConstantValue::Truth(true), tree);
     }
     if count < least {
-        is_written(ConstantValue::Truth(false), tree)?;
-        return Ok(());
+        return is_written(ConstantValue::Truth(false), tree);
     }
     if least == count {
-        let nothing = ConstantValue::Truth(true);
-        joined(
-            setting,
-            scope,
-            each,
-            Operator::And,
-            nothing,
-            members,
-            tree,
-            inner,
-        )?;
-        return Ok(());
+        return joined(setting, scope, each, EVERY, members, tree, inner);
     }
     if least == 1 {
-        let nothing = ConstantValue::Truth(false);
-        joined(
-            setting,
-            scope,
-            each,
-            Operator::Or,
-            nothing,
-            members,
-            tree,
-            inner,
-        )?;
-        return Ok(());
+        return joined(setting, scope, each, ANY, members, tree, inner);
     }
-    either(setting, scope, each, least, members, tree, inner)?;
-    Ok(())
+    either(setting, scope, each, least, members, tree, inner)
 }
 
 // The same for a number above 1, and below that of the members.
@@ -289,24 +225,23 @@ fn either(
     members: &[i64],
     tree: &Expr,
     depth: u32,
-) -> Result<(), Difference>
+) -> Expanding<()>
     requires above { pos 1 <ℤ least }
     requires below { least <ℤ pos (length members.now) }
     ensures { IfOk result (λ _. AtLeast (setting_of setting.now) (scope_of scope.now) each.now least members.now (tree_of tree.now)) }
 {
     let inner = deeper(depth)?;
     let Some((first, others)) = members.split_first() else {
-        return Err(Difference::Found);
+        return Err(DIFFERENT);
     };
     let Expr::Binary(Operator::Or, both, without) = tree else {
-        return Err(Difference::Found);
+        return Err(DIFFERENT);
     };
     let Expr::Binary(Operator::And, holds, with) = &**both else {
-        return Err(Difference::Found);
+        return Err(DIFFERENT);
     };
     let within = PlaceScope::Member(each.binder.member, *first, &*scope);
     stands(setting, &within, &each.body, holds, inner)?;
     at_least(setting, scope, each, least - 1, others, with, inner)?;
-    at_least(setting, scope, each, least, others, without, inner)?;
-    Ok(())
+    at_least(setting, scope, each, least, others, without, inner)
 }

@@ -9,27 +9,18 @@ ghost use Rattle.notation_meaning.specs.ModelScopes.{Top};
 ghost use Rattle.notation_meaning.specs.ModelPrograms.{ProcessOf, ProcessesOf, DeclarationOf, DeclarationsOf};
 ghost use Rattle.notation_meaning.specs.AgreementViews.{place_of, places_of, constants_of, model_progress_of};
 
-use crate::difference::{DEPTH, Difference, LEVELS};
+use crate::difference::{DEPTH, DIFFERENT, LEVELS};
 use crate::families::{FamilyPlace, places};
-use crate::items::{PlainProgress, ProcessHere, items, set_constant};
-use crate::names::{is_same, member_name};
+use crate::items::{PlainProgress, items, set_constant};
+use crate::names::{check_name, member_name};
 use crate::scopes::{MemberHere, PlaceScope};
-use crate::setting::Known;
+use crate::setting::{ModelHere, ProcessHere};
 use crate::values::value;
 use crate::variables::after;
 use dbg_base::Pid;
 use notation_tree::arithmetic::ConstantValue;
-use notation_tree::syntax::{Constant, DeclarationNode, Definition, ProcessNode};
-use proc_tree::Program;
-use std::alloc::Global;
-
-/// What is the same for all declarations: the definitions of the model, and the plain program.
-#[derive(Clone, Copy)]
-pub(crate) struct ModelHere<'a> {
-    pub(crate) alloc: Global,
-    pub(crate) definitions: &'a [Definition],
-    pub(crate) program: &'a Program,
-}
+use notation_tree::fault::Expanding;
+use notation_tree::syntax::{Constant, DeclarationNode, ProcessNode};
 
 /// What the declarations so far are: the values of constants, and so many processes of the program.
 #[derive(Drop)]
@@ -45,25 +36,15 @@ fn process(
     place: &[MemberHere],
     constants: Vec<Option<ConstantValue>>,
     number: u32,
-) -> Result<Vec<Option<ConstantValue>>, Difference>
+) -> Expanding<Vec<Option<ConstantValue>>>
     ensures { IfOk result (λ later. (p : tree.Process) × (slice_get (program_of here.now.program.now) number ≡ Some p)
         × ProcessOf here.now.definitions.now (names_of (program_of here.now.program.now)) node.now (place_of Top place.now)
         (constants_of constants.items) (constants_of later.items) p) }
 {
     let own = Pid(number);
     let name = member_name(here.alloc, node.name.bytes(), place)?;
-    let Some(found) = here.program.process_name(own) else {
-        return Err(Difference::Found);
-    };
-    if !is_same(found.bytes(), name.as_slice()) {
-        return Err(Difference::Found);
-    }
-    let inside = ProcessHere {
-        alloc: here.alloc,
-        definitions: here.definitions,
-        program: here.program,
-        own,
-    };
+    check_name(here.program.process_name(own), name.as_slice())?;
+    let inside = ProcessHere { model: *here, own };
     let mut progress = PlainProgress {
         constants,
         variables: 0,
@@ -80,7 +61,7 @@ fn process(
     if progress.variables != here.program.variables(own)
         || progress.commands != here.program.commands(own)
     {
-        return Err(Difference::Found);
+        return Err(DIFFERENT);
     }
     Ok(progress.constants)
 }
@@ -91,7 +72,7 @@ fn family(
     node: &ProcessNode,
     places: &[FamilyPlace],
     start: ProgramProgress,
-) -> Result<ProgramProgress, Difference>
+) -> Expanding<ProgramProgress>
     ensures { IfOk result (λ end. ProcessesOf here.now.definitions.now (names_of (program_of here.now.program.now)) node.now
         (places_of Top places.now) (model_progress_of here.now start) (model_progress_of here.now end)) }
 {
@@ -118,16 +99,12 @@ fn constant(
     here: &ModelHere<'_>,
     node: &Constant,
     start: ProgramProgress,
-) -> Result<ProgramProgress, Difference>
+) -> Expanding<ProgramProgress>
     ensures { IfOk result (λ end. DeclarationOf here.now.definitions.now (names_of (program_of here.now.program.now))
         (declared.Constant node.now) (model_progress_of here.now start) (model_progress_of here.now end)) }
 {
     let mut progress = start;
-    let known = Known {
-        alloc: here.alloc,
-        definitions: here.definitions,
-        constants: progress.constants.as_slice(),
-    };
+    let known = here.known(progress.constants.as_slice());
     let held = value(&known, &PlaceScope::Top, &node.value, DEPTH)?;
     set_constant(&mut progress.constants, node.number, held)?;
     Ok(progress)
@@ -138,24 +115,16 @@ fn declaration(
     here: &ModelHere<'_>,
     node: &DeclarationNode,
     start: ProgramProgress,
-) -> Result<ProgramProgress, Difference>
+) -> Expanding<ProgramProgress>
     ensures { IfOk result (λ end. DeclarationOf here.now.definitions.now (names_of (program_of here.now.program.now)) node.now
         (model_progress_of here.now start) (model_progress_of here.now end)) }
 {
     match node {
-        DeclarationNode::Constant(node) => {
-            let end = constant(here, node, start)?;
-            Ok(end)
-        }
+        DeclarationNode::Constant(node) => constant(here, node, start),
         DeclarationNode::Process(node) => {
-            let known = Known {
-                alloc: here.alloc,
-                definitions: here.definitions,
-                constants: start.constants.as_slice(),
-            };
+            let known = here.known(start.constants.as_slice());
             let found = places(&known, &PlaceScope::Top, node.ranges.as_slice(), DEPTH)?;
-            let end = family(here, node, found.as_slice(), start)?;
-            Ok(end)
+            family(here, node, found.as_slice(), start)
         }
     }
 }
@@ -165,7 +134,7 @@ pub(crate) fn declarations(
     here: &ModelHere<'_>,
     nodes: &[DeclarationNode],
     start: ProgramProgress,
-) -> Result<ProgramProgress, Difference>
+) -> Expanding<ProgramProgress>
     ensures { IfOk result (λ end. DeclarationsOf here.now.definitions.now (names_of (program_of here.now.program.now)) nodes.now
         (model_progress_of here.now start) (model_progress_of here.now end)) }
 {

@@ -6,12 +6,13 @@ ghost use Rattle.notation_tree.specs.ComputedValues.{value_of};
 ghost use Rattle.notation_meaning.specs.AgreementViews.{context_of, scope_of};
 ghost use Rattle.notation_meaning.specs.ModelValues.{HasValue, FormGives, LinksGive, LinkGives, HasMembers, MembersFrom, ConditionIs, SumIs, EnoughHold};
 
-use crate::difference::{Difference, deeper};
+use crate::difference::{DIFFERENT, deeper};
 use crate::scopes::{PlaceScope, argument};
 use crate::setting::{Known, callee};
 use crate::simple::simple_value;
 use dbg_base::Operator;
 use notation_tree::arithmetic::{ConstantValue, calculated, negated};
+use notation_tree::fault::Expanding;
 use notation_tree::syntax::{Binder, Each, Expression, FormNode, Link};
 
 /// The value of an expression.
@@ -21,7 +22,7 @@ pub(crate) fn value(
     scope: &PlaceScope<'_>,
     expression: &Expression,
     depth: u32,
-) -> Result<ConstantValue, Difference>
+) -> Expanding<ConstantValue>
     ensures { IfOk result (λ v. HasValue (context_of known.now) (scope_of scope.now) expression.now (value_of v)) }
 {
     let inner = deeper(depth)?;
@@ -31,16 +32,14 @@ pub(crate) fn value(
     match expression {
         Expression::Parameter(_, number) => {
             let Some(meant) = argument(&*scope, *number) else {
-                return Err(Difference::Found);
+                return Err(DIFFERENT);
             };
-            let found = value(known, meant.scope, meant.expression, inner)?;
-            Ok(found)
+            value(known, meant.scope, meant.expression, inner)
         }
         Expression::Call(_, number, arguments) => {
             let definition = callee(known, *number, arguments.as_slice())?;
             let within = PlaceScope::Call(definition.first, arguments.as_slice(), &*scope);
-            let found = value(known, &within, &definition.body, inner)?;
-            Ok(found)
+            value(known, &within, &definition.body, inner)
         }
         Expression::Not(_, operand) => {
             let held = truth(known, scope, operand, inner)?;
@@ -49,20 +48,16 @@ pub(crate) fn value(
         Expression::Negate(_, operand) => {
             let held = number(known, scope, operand, inner)?;
             let Some(opposite) = negated(held) else {
-                return Err(Difference::Found);
+                return Err(DIFFERENT);
             };
             Ok(opposite)
         }
         Expression::Chain(_, first, links) => {
             let left = value(known, scope, first, inner)?;
-            let found = linked(known, scope, left, links.as_slice(), inner)?;
-            Ok(found)
+            linked(known, scope, left, links.as_slice(), inner)
         }
-        Expression::Each(each) => {
-            let found = form_value(known, scope, each, inner)?;
-            Ok(found)
-        }
-        _ => Err(Difference::Found),
+        Expression::Each(each) => form_value(known, scope, each, inner),
+        _ => Err(DIFFERENT),
     }
 }
 
@@ -73,7 +68,7 @@ fn form_value(
     scope: &PlaceScope<'_>,
     each: &Each,
     depth: u32,
-) -> Result<ConstantValue, Difference>
+) -> Expanding<ConstantValue>
     ensures { IfOk result (λ v. FormGives (context_of known.now) (scope_of scope.now) each.now (value_of v)) }
 {
     let inner = deeper(depth)?;
@@ -94,7 +89,7 @@ fn form_value(
         }
         FormNode::AtLeast => {
             let Some(least) = &each.least else {
-                return Err(Difference::Found);
+                return Err(DIFFERENT);
             };
             let wanted = number(known, scope, least, inner)?;
             let held = enough(known, scope, each, wanted, found.as_slice(), inner)?;
@@ -110,14 +105,14 @@ pub(crate) fn number(
     scope: &PlaceScope<'_>,
     expression: &Expression,
     depth: u32,
-) -> Result<i64, Difference>
+) -> Expanding<i64>
     ensures { IfOk result (λ z. HasValue (context_of known.now) (scope_of scope.now) expression.now (Num z)) }
 {
     let inner = deeper(depth)?;
     let found = value(known, scope, expression, inner)?;
     match found {
         ConstantValue::Number(number) => Ok(number),
-        ConstantValue::Truth(_) => Err(Difference::Found),
+        ConstantValue::Truth(_) => Err(DIFFERENT),
     }
 }
 
@@ -128,14 +123,14 @@ pub(crate) fn truth(
     scope: &PlaceScope<'_>,
     expression: &Expression,
     depth: u32,
-) -> Result<bool, Difference>
+) -> Expanding<bool>
     ensures { IfOk result (λ b. HasValue (context_of known.now) (scope_of scope.now) expression.now (Tru b)) }
 {
     let inner = deeper(depth)?;
     let found = value(known, scope, expression, inner)?;
     match found {
         ConstantValue::Truth(truth) => Ok(truth),
-        ConstantValue::Number(_) => Err(Difference::Found),
+        ConstantValue::Number(_) => Err(DIFFERENT),
     }
 }
 
@@ -147,7 +142,7 @@ fn linked(
     left: ConstantValue,
     links: &[Link],
     depth: u32,
-) -> Result<ConstantValue, Difference>
+) -> Expanding<ConstantValue>
     ensures { IfOk result (λ v. LinksGive (context_of known.now) (scope_of scope.now) (value_of left) links.now (value_of v)) }
 {
     let inner = deeper(depth)?;
@@ -168,7 +163,7 @@ fn one_link(
     left: ConstantValue,
     link: &Link,
     depth: u32,
-) -> Result<ConstantValue, Difference>
+) -> Expanding<ConstantValue>
     ensures { IfOk result (λ v. LinkGives (context_of known.now) (scope_of scope.now) (value_of left) link.now (value_of v)) }
 {
     let inner = deeper(depth)?;
@@ -188,12 +183,12 @@ fn one_link(
                 let right = truth(known, scope, &link.operand, inner)?;
                 Ok(ConstantValue::Truth(right))
             }
-            _ => Err(Difference::Found),
+            _ => Err(DIFFERENT),
         },
         ConstantValue::Number(x) => {
             let y = number(known, scope, &link.operand, inner)?;
             let Some(found) = calculated(link.operator, x, y) else {
-                return Err(Difference::Found);
+                return Err(DIFFERENT);
             };
             Ok(found)
         }
@@ -207,16 +202,13 @@ fn condition(
     scope: &PlaceScope<'_>,
     binder: &Binder,
     depth: u32,
-) -> Result<bool, Difference>
+) -> Expanding<bool>
     ensures { IfOk result (λ b. ConditionIs (context_of known.now) (scope_of scope.now) binder.now b) }
 {
     let inner = deeper(depth)?;
     match &binder.condition {
         None => Ok(true),
-        Some(wanted) => {
-            let held = truth(known, scope, wanted, inner)?;
-            Ok(held)
-        }
+        Some(wanted) => truth(known, scope, wanted, inner),
     }
 }
 
@@ -227,14 +219,13 @@ pub(crate) fn members(
     scope: &PlaceScope<'_>,
     binder: &Binder,
     depth: u32,
-) -> Result<Vec<i64>, Difference>
+) -> Expanding<Vec<i64>>
     ensures { IfOk result (λ ms. HasMembers (context_of known.now) (scope_of scope.now) binder.now ms.items) }
 {
     let inner = deeper(depth)?;
     let low = number(known, scope, &binder.low, inner)?;
     let high = number(known, scope, &binder.high, inner)?;
-    let found = between(known, scope, binder, low, high, inner)?;
-    Ok(found)
+    between(known, scope, binder, low, high, inner)
 }
 
 // The members between two bounds for which the condition holds.
@@ -246,7 +237,7 @@ fn between(
     low: i64,
     high: i64,
     depth: u32,
-) -> Result<Vec<i64>, Difference>
+) -> Expanding<Vec<i64>>
     ensures { IfOk result (λ ms. MembersFrom (context_of known.now) (scope_of scope.now) binder.now low high ms.items) }
 {
     let inner = deeper(depth)?;
@@ -265,16 +256,16 @@ fn between(
         };
         next = following;
     }
-    Err(Difference::Found)
+    Err(DIFFERENT)
 }
 
 /// How many members there are.
-pub(crate) fn count_of(members: &[i64]) -> Result<i64, Difference>
+pub(crate) fn count_of(members: &[i64]) -> Expanding<i64>
     ensures { IfOk result (λ count. count ≡ pos (length members.now)) }
 {
     match i64::try_from(members.len()) {
         Ok(count) => Ok(count),
-        Err(_) => Err(Difference::Found),
+        Err(_) => Err(DIFFERENT),
     }
 }
 
@@ -286,7 +277,7 @@ fn sum(
     each: &Each,
     members: &[i64],
     depth: u32,
-) -> Result<i64, Difference>
+) -> Expanding<i64>
     ensures { IfOk result (λ z. SumIs (context_of known.now) (scope_of scope.now) each.now members.now z) }
 {
     let inner = deeper(depth)?;
@@ -295,18 +286,17 @@ fn sum(
         Some((only, others)) => {
             if others.len() == 0 {
                 let within = PlaceScope::Member(each.binder.member, *only, &*scope);
-                let term = number(known, &within, &each.body, inner)?;
-                return Ok(term);
+                return number(known, &within, &each.body, inner);
             }
             let (prefix, rest) = members.split_at(members.len() - members.len() / 2);
             let x = sum(known, scope, each, prefix, inner)?;
             let y = sum(known, scope, each, rest, inner)?;
             let Some(total) = calculated(Operator::Add, x, y) else {
-                return Err(Difference::Found);
+                return Err(DIFFERENT);
             };
             match total {
                 ConstantValue::Number(total) => Ok(total),
-                ConstantValue::Truth(_) => Err(Difference::Found),
+                ConstantValue::Truth(_) => Err(DIFFERENT),
             }
         }
     }
@@ -321,7 +311,7 @@ fn enough(
     least: i64,
     members: &[i64],
     depth: u32,
-) -> Result<bool, Difference>
+) -> Expanding<bool>
     ensures { IfOk result (λ b. EnoughHold (context_of known.now) (scope_of scope.now) each.now least members.now b) }
 {
     let inner = deeper(depth)?;

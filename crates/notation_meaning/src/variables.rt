@@ -9,21 +9,22 @@ ghost use Rattle.notation_meaning.specs.ModelFamilies.{Place, place_in, PlacesOf
 ghost use Rattle.notation_meaning.specs.ModelPrograms.{VariablesOf};
 ghost use Rattle.notation_meaning.specs.AgreementViews.{context_of, scope_of, place_of, places_of};
 
-use crate::difference::{DEPTH, Difference};
+use crate::difference::{DEPTH, DIFFERENT};
 use crate::families::{FamilyPlace, places};
-use crate::names::{is_same, member_name};
+use crate::names::{check_name, member_name};
 use crate::scopes::{MemberHere, PlaceScope};
 use crate::setting::PlainSetting;
 use crate::values::number;
+use notation_tree::fault::Expanding;
 use notation_tree::syntax::VariableNode;
 
 /// The number after this one, if it fits.
-pub(crate) fn after(number: u32) -> Result<u32, Difference>
+pub(crate) fn after(number: u32) -> Expanding<u32>
     ensures { IfOk result (λ next. next ≡ suc number) }
 {
     match number.checked_add(1) {
         Some(next) => Ok(next),
-        None => Err(Difference::Found),
+        None => Err(DIFFERENT),
     }
 }
 
@@ -34,7 +35,7 @@ fn is_variable(
     node: &VariableNode,
     place: &[MemberHere],
     index: u32,
-) -> Result<(), Difference>
+) -> Expanding<()>
     ensures { IfOk result (λ _. (name : List ℕ) × (z : ℤ)
         × HasValue (context_of setting.now.known) (place_of (scope_of scope.now) place.now).scope node.now.value (Num z)
         × IsIndexed node.now.name (place_of (scope_of scope.now) place.now).indices name
@@ -43,17 +44,13 @@ fn is_variable(
     let within = PlaceScope::Members(place, &*scope);
     let wanted = number(&setting.known, &within, &node.value, DEPTH)?;
     let name = member_name(setting.known.alloc, node.name.bytes(), place)?;
-    let Some(found) = setting.program.variable_name(setting.own, index) else {
-        return Err(Difference::Found);
-    };
-    if !is_same(found.bytes(), name.as_slice()) {
-        return Err(Difference::Found);
-    }
+    let found = setting.program.variable_name(setting.own, index);
+    check_name(found, name.as_slice())?;
     let Some(initial) = setting.program.start_value(setting.own, index) else {
-        return Err(Difference::Found);
+        return Err(DIFFERENT);
     };
     if initial != wanted {
-        return Err(Difference::Found);
+        return Err(DIFFERENT);
     }
     Ok(())
 }
@@ -65,7 +62,7 @@ fn variables_at(
     node: &VariableNode,
     places: &[FamilyPlace],
     start: u32,
-) -> Result<u32, Difference>
+) -> Expanding<u32>
     ensures { IfOk result (λ end. VariablesOf (context_of setting.now.known) node.now (places_of (scope_of scope.now) places.now)
         (take start (process_of (program_of setting.now.program.now) setting.now.own.0).variables)
         (take end (process_of (program_of setting.now.program.now) setting.now.own.0).variables)) }
@@ -86,7 +83,7 @@ pub(crate) fn variables(
     scope: &PlaceScope<'_>,
     node: &VariableNode,
     start: u32,
-) -> Result<u32, Difference>
+) -> Expanding<u32>
     ensures { IfOk result (λ end. (whole : List Place)
         × PlacesOf (context_of setting.now.known) (place_in (scope_of scope.now) ∷ []) node.now.ranges.items whole
         × VariablesOf (context_of setting.now.known) node.now whole
@@ -94,6 +91,5 @@ pub(crate) fn variables(
         (take end (process_of (program_of setting.now.program.now) setting.now.own.0).variables)) }
 {
     let found = places(&setting.known, scope, node.ranges.as_slice(), DEPTH)?;
-    let end = variables_at(setting, scope, node, found.as_slice(), start)?;
-    Ok(end)
+    variables_at(setting, scope, node, found.as_slice(), start)
 }

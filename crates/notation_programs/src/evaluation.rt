@@ -2,15 +2,9 @@
 
 use crate::environment::Environment;
 use dbg_base::Operator;
-use notation_tree::arithmetic::ConstantValue;
+use notation_tree::arithmetic::{ConstantValue, calculated, negated};
 use notation_tree::fault::{Expanding, ExpansionStop, Problem};
 use notation_tree::syntax::{Binder, Each, Expression, FormNode, Link, place};
-
-// The number, if it is in range.
-fn in_range(number: Option<i64>, at: usize) -> Expanding<ConstantValue> {
-    let number = number.ok_or(ExpansionStop::Bad(Problem::Overflow, at))?;
-    Ok(ConstantValue::Number(number))
-}
 
 // A number that is an operand.
 fn number_of(value: ConstantValue, at: usize) -> Expanding<i64> {
@@ -30,23 +24,15 @@ fn truth_of(value: ConstantValue, at: usize) -> Expanding<bool> {
 
 // What two numbers give; the operator is at this offset.
 fn calculate(operator: Operator, x: i64, y: i64, at: usize) -> Expanding<ConstantValue> {
-    match operator {
-        Operator::Add => in_range(x.checked_add(y), at),
-        Operator::Subtract => in_range(x.checked_sub(y), at),
-        Operator::Multiply => in_range(x.checked_mul(y), at),
-        Operator::Divide | Operator::Remainder if y == 0 => {
-            Err(ExpansionStop::Bad(Problem::DivisionByZero, at))
-        }
-        Operator::Divide => in_range(x.checked_div(y), at),
-        Operator::Remainder => in_range(x.checked_rem(y), at),
-        Operator::Equal => Ok(ConstantValue::Truth(x == y)),
-        Operator::NotEqual => Ok(ConstantValue::Truth(x != y)),
-        Operator::Less => Ok(ConstantValue::Truth(x < y)),
-        Operator::LessOrEqual => Ok(ConstantValue::Truth(x <= y)),
-        Operator::Greater => Ok(ConstantValue::Truth(x > y)),
-        Operator::GreaterOrEqual => Ok(ConstantValue::Truth(x >= y)),
-        Operator::And | Operator::Or => Err(ExpansionStop::Bad(Problem::TruthExpected, at)),
+    if let Some(value) = calculated(operator, x, y) {
+        return Ok(value);
     }
+    let problem = match operator {
+        Operator::Divide | Operator::Remainder if y == 0 => Problem::DivisionByZero,
+        Operator::And | Operator::Or => Problem::TruthExpected,
+        _ => Problem::Overflow,
+    };
+    Err(ExpansionStop::Bad(problem, at))
 }
 
 impl<'a> Environment<'a> {
@@ -82,7 +68,7 @@ impl<'a> Environment<'a> {
             }
             Expression::Negate(at, operand) => {
                 let number = self.number(operand, inner)?;
-                in_range(number.checked_neg(), *at)
+                negated(number).ok_or(ExpansionStop::Bad(Problem::Overflow, *at))
             }
             Expression::Chain(_, first, links) => self.chain(first, links.as_slice(), inner),
             Expression::Each(each) => self.each(each, inner),
@@ -200,7 +186,7 @@ impl<'a> Environment<'a> {
         let (prefix, rest) = halves(members);
         let x = number_of(self.sum(each, prefix, inner)?, place(&each.body))?;
         let y = number_of(self.sum(each, rest, inner)?, place(&each.body))?;
-        in_range(x.checked_add(y), each.at)
+        calculate(Operator::Add, x, y, each.at)
     }
 
     // Whether so many of these members have a true expression.

@@ -12,7 +12,7 @@ use crate::environment::{Environment, member_values};
 use crate::plain_text::{Origin, map_of};
 use crate::writing::Writer;
 use dbg_base::{Choice, Pid, ProgFault};
-use notation_tree::fault::{ExpansionStop, Fault, MemberValue, NotationError, Problem};
+use notation_tree::fault::{Expanding, ExpansionStop, Fault, MemberValue, NotationError, Problem};
 use notation_tree::lexer::{first_wrong, tokens};
 use notation_tree::model::ParsedModel;
 use notation_tree::parser::model;
@@ -103,17 +103,21 @@ fn expanded(alloc: Global, model: ParsedModel, source: usize) -> Result<Expansio
     })
 }
 
+// The model that a text writes.
+fn parsed(alloc: Global, source: &[u8]) -> Expanding<ParsedModel> {
+    let tokens = tokens(alloc, source)?;
+    match first_wrong(tokens.as_slice()) {
+        Some((problem, at)) => Err(ExpansionStop::Bad(problem, at)),
+        None => model(alloc, source, tokens.as_slice()),
+    }
+}
+
 /// Expands a text in the notation: each text is expanded, or has a fault at a place of its own, unless memory runs out.
 pub fn expand(alloc: Global, source: &[u8]) -> Result<Expansion, NotationError>
     ensures source { IfOk result (λ expansion. source_length expansion ≡ length source.now) }
     ensures inside { IfErr result (IsInside (length source.now)) }
 {
-    let tokens = tokens(alloc, source)?;
-    if let Some((problem, at)) = first_wrong(tokens.as_slice()) {
-        let stop = ExpansionStop::Bad(problem, at);
-        return Err(failed(stop, Vec::new(alloc), source.len()));
-    }
-    match model(alloc, source, tokens.as_slice()) {
+    match parsed(alloc, source) {
         Ok(model) => expanded(alloc, model, source.len()),
         Err(stop) => Err(failed(stop, Vec::new(alloc), source.len())),
     }

@@ -175,11 +175,3 @@ impl From<AllocError> for NotationError {
         NotationError::Memory
     }
 }
-
-impl<T: Drop> From<AllocFailed<T>> for NotationError {
-    ghost from_gives = { λ _ error. error ≡ Memory };
-
-    fn from(_error: AllocFailed<T>) -> NotationError {
-        NotationError::Memory
-    }
-}

@@ -13,11 +13,12 @@ use dbg_base::{Name, Operator};
 pub use items::model;
 use std::alloc::Global;
 
-/// The precedences of operators, weakest first; comparisons and `not` are between `And` and `Sum`.
+/// The precedences of operators, weakest first; `not` is between `And` and `Comparison`.
 #[derive(Clone, Copy)]
 pub(crate) enum Level {
     Or,
     And,
+    Comparison,
     Sum,
     Product,
 }

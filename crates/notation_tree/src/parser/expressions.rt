@@ -7,7 +7,7 @@ use crate::fault::{Expanding, ExpansionStop, Expected, Problem};
 use crate::scope::Binding;
 use crate::syntax::{Binder, Each, Expression, FormNode, Link, Reference, enclosed};
 use crate::token::{Mark, SourceTokenKind};
-use dbg_base::Direction;
+use dbg_base::{Direction, Operator};
 
 // The form that a word begins.
 fn form_of(word: &[u8]) -> Option<FormNode> {
@@ -66,16 +66,22 @@ impl<'a> ModelParser<'a> {
             let Some(operator) = self.operator(level) else {
                 break;
             };
-            let place = self.at();
-            self.pass();
-            let operand = self.operand(level, depth)?;
-            links.push(Link {
-                operator,
-                at: place,
-                operand,
-            })?;
+            links.push(self.link(operator, level, depth)?)?;
         }
         Ok(Expression::Chain(at, Box::new(self.alloc, first)?, links))
+    }
+
+    // An operator, which is the next token, and its right operand.
+    #[cycle(expressions)]
+    fn link(&mut self, operator: Operator, level: Level, depth: u32) -> Expanding<Link> {
+        let at = self.at();
+        self.pass();
+        let operand = self.operand(level, depth)?;
+        Ok(Link {
+            operator,
+            at,
+            operand,
+        })
     }
 
     // An operand of an operator of this precedence.
@@ -84,6 +90,7 @@ impl<'a> ModelParser<'a> {
         match level {
             Level::Or => self.chain(Level::And, depth),
             Level::And => self.truth(depth),
+            Level::Comparison => self.chain(Level::Sum, depth),
             Level::Sum => self.chain(Level::Product, depth),
             Level::Product => self.signed(depth),
         }
@@ -99,22 +106,16 @@ impl<'a> ModelParser<'a> {
             let operand = self.truth(inner)?;
             return Ok(Expression::Not(at, Box::new(self.alloc, operand)?));
         }
-        let first = self.chain(Level::Sum, depth)?;
+        let first = self.operand(Level::Comparison, depth)?;
         let Some(operator) = self.comparison() else {
             return Ok(first);
         };
-        let place = self.at();
-        self.pass();
-        let operand = self.chain(Level::Sum, depth)?;
+        let link = self.link(operator, Level::Comparison, depth)?;
         if self.comparison().is_some() {
             return Err(ExpansionStop::Bad(Problem::ComparisonChain, self.at()));
         }
         let mut links = Vec::new(self.alloc);
-        links.push(Link {
-            operator,
-            at: place,
-            operand,
-        })?;
+        links.push(link)?;
         Ok(Expression::Chain(at, Box::new(self.alloc, first)?, links))
     }
 

@@ -1,14 +1,16 @@
 use Rattle.notation_meaning.specs.ModelPrograms.{local, send, receive}
+use Rattle.notation_meaning.proofs.Outcomes.{on_ok}
 use Rattle.notation_meaning.proofs.commands.is_action.Goals as goal
 
-pub returns-in-Local-found : goal.returns-in-Local-found
-returns-in-Local-found c = rw (c.in-Local.is, c.in-Local-found.is) local
+pub returns-in-Local-Local : goal.returns-in-Local-Local
+returns-in-Local-Local c = rw (c.in-Local-Local.is-0, c.in-Local-Local.is-1) local
 
-pub returns-in_ok-stands-in-Send : goal.returns-in_ok-stands-in-Send
-returns-in_ok-stands-in-Send c =
-    rw (c.in-Send.is, c.in-Send-found.is) (send c.in_ok-names_process-in-Send.ensures c.in_ok-stands-in-Send.ensures)
+pub returns-in_ok-names_process-in-Send-Send : goal.returns-in_ok-names_process-in-Send-Send
+returns-in_ok-names_process-in-Send-Send c =
+    on_ok c.stands.result c.stands.ensures
+    (λ x h. rw (c.in-Send-Send.is-0, c.in-Send-Send.is-1) (send c.in_ok-names_process-in-Send-Send.ensures h))
 
-pub returns-in_ok-names_variable-in-Receive : goal.returns-in_ok-names_variable-in-Receive
-returns-in_ok-names_variable-in-Receive c =
-    rw (c.in-Receive.is, c.in-Receive-found.is)
-    (receive c.in_ok-names_process-in-Receive.ensures c.in_ok-names_variable-in-Receive.ensures)
+pub returns-in_ok-names_process-in-Receive-Receive : goal.returns-in_ok-names_process-in-Receive-Receive
+returns-in_ok-names_process-in-Receive-Receive c =
+    on_ok c.names_variable.result c.names_variable.ensures
+    (λ x h. rw (c.in-Receive-Receive.is-0, c.in-Receive-Receive.is-1) (receive c.in_ok-names_process-in-Receive-Receive.ensures h))

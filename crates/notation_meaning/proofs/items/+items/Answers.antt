@@ -3,6 +3,7 @@ use Rattle.notation_tree.specs.declared.syntax.ItemNode.{out-ItemNode}
 use Rattle.notation_tree.specs.declared.syntax.ItemNode.TheViews as view
 use Rattle.notation_meaning.specs.ModelPrograms.{repeated_items}
 use Rattle.notation_meaning.specs.AgreementViews.{progress_of}
+use Rattle.notation_meaning.proofs.Outcomes.{on_ok}
 use Rattle.notation_meaning.proofs.AgreementParts.{items_step, items_done, copies_step, copies_done}
 use Rattle.notation_meaning.proofs.items.+items.Goals as goal
 
@@ -22,7 +23,7 @@ items-loop-first-preserved t c =
 pub items-returns : goal.items-returns
 items-returns t c = items_done _ _ _ c.loop-first.rest.now _ _ c.loop-first.invariant c.in_default.ensures.cases
 
-pub item-returns-in_ok-copies-in-Repeat : goal.item-returns-in_ok-copies-in-Repeat
-item-returns-in_ok-copies-in-Repeat t c =
-    repeated_items _ _ (ap out-ItemNode c.in-Repeat.is ∙ view.outs-Repeat c.in-Repeat.binder c.in-Repeat.repeated)
-    c.in_ok-found-in-Repeat.ensures (rw (c.as_slice.ensures.value, c.as_slice-in-Repeat.ensures.value) at c.in_ok-copies-in-Repeat.ensures)
+pub item-returns-in_ok-found-in-Repeat : goal.item-returns-in_ok-found-in-Repeat
+item-returns-in_ok-found-in-Repeat t c =
+    on_ok c.copies.result c.copies.ensures (λ x h. repeated_items _ _ (ap out-ItemNode c.in-Repeat.is ∙ view.outs-Repeat c.in-Repeat.binder c.in-Repeat.repeated)
+    c.in_ok-found-in-Repeat.ensures (rw (c.as_slice.ensures.value, c.as_slice-in-Repeat.ensures.value) at h))

@@ -7,5 +7,5 @@ use Rattle.notation_meaning.proofs.items.command.Goals as goal
 pub returns : goal.returns
 returns c item is =
     let commands = (own_process c.args.here.now).commands in
-    command_done _ _ _ _ _ _ _ _ _ is (rw c.as_slice.ensures.value at c.in_ok-is_command.ensures)
+    command_done _ _ _ _ _ _ _ _ _ is (rw (c.setting-setting.ensures, c.as_slice.ensures.value) at c.in_ok-is_command.ensures)
     (ap (λ k. take k commands) c.in_ok-end.ensures ∙ take_next commands c.args.progress.now.commands _ (sym c.in-Some.ensures))

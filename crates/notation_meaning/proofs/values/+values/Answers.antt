@@ -6,6 +6,7 @@ use Rattle.notation_tree.specs.declared.syntax.Expression.{out-Expression}
 use Rattle.notation_tree.specs.declared.syntax.Expression.TheViews as view
 use Rattle.notation_meaning.specs.AgreementViews.{context_of, scope_of}
 use Rattle.notation_meaning.specs.ModelValues as v
+use Rattle.notation_meaning.proofs.Outcomes.{on_ok}
 use Rattle.notation_meaning.proofs.AgreementLemmas as lemma
 use Rattle.notation_meaning.proofs.values.+values.Goals as goal
 use Rattle.notation_meaning.proofs.values.+values.Goals.{between-then-branch+in_ok-push, between-else-branch}
@@ -37,8 +38,9 @@ between-loop-preserved t c =
 pub condition-returns-in-None : goal.condition-returns-in-None
 condition-returns-in-None t c = v.unconditional c.in-None.is
 
-pub condition-returns-in_ok-held-in-Some : goal.condition-returns-in_ok-held-in-Some
-condition-returns-in_ok-held-in-Some t c = v.conditional c.in-Some.is c.in_ok-held-in-Some.ensures
+pub condition-returns-in-Some : goal.condition-returns-in-Some
+condition-returns-in-Some t c =
+    on_ok c.truth.result c.truth.ensures (λ b h. v.conditional c.in-Some.is h)
 
 pub enough-returns-then-missing-le0 : goal.enough-returns-then-missing-le0
 enough-returns-then-missing-le0 t c =
@@ -98,7 +100,7 @@ between-returns-in_default t c =
 pub members-returns : goal.members-returns
 members-returns t c =
     let fl : SFits w64 c.in_ok-low.low = search rules in let fh : SFits w64 c.in_ok-high.high = search rules in
-    v.range c.in_ok-low.ensures c.in_ok-high.ensures (simp to_z-of_z at c.in_ok-found.ensures)
+    on_ok c.between.result c.between.ensures (λ ms h. v.range c.in_ok-low.ensures c.in_ok-high.ensures (simp to_z-of_z at h))
 
 pub one_link-returns-then-not-held : goal.one_link-returns-then-not-held
 one_link-returns-then-not-held t c = lemma.and_decided _ _ c.in-Truth.is (first_of (search rules, grind arith)) c.in-And.is
@@ -123,8 +125,7 @@ sum-returns-in-None t c = lemma.sum_end _ _ _ c.in-None.ensures.cases
 
 pub sum-returns-then-others-eq0 : goal.sum-returns-then-others-eq0
 sum-returns-then-others-eq0 t c =
-    let f : SFits w64 c.in_ok-term-in-Some.term = search rules in
-    simp to_z-of_z (lemma.sum_one _ _ c.in-Some.others.now c.in_ok-term-in-Some.ensures (first_of (cc (c.in-Some.ensures.cases.0), search rules, grind (arith, c.in-Some.ensures.cases.0)))
+    on_ok c.number.result c.number.ensures (λ z h. lemma.sum_one _ _ c.in-Some.others.now h (first_of (cc (c.in-Some.ensures.cases.0), search rules, grind (arith, c.in-Some.ensures.cases.0)))
     (first_of (search rules, omega arith)))
 
 pub sum-returns-in-Number : goal.sum-returns-in-Number
@@ -140,16 +141,16 @@ sum-returns-in-Number t c =
 pub value-returns-in-Some : goal.value-returns-in-Some
 value-returns-in-Some t c = v.simple c.in-Some.ensures
 
-pub value-returns-in_ok-found-in-Parameter : goal.value-returns-in_ok-found-in-Parameter
+pub value-returns-in-Some-argument : goal.value-returns-in-Some-argument
 unfolding out-Expression denote.Hole.Carrier.out
-value-returns-in_ok-found-in-Parameter t c =
-    v.parameter _ (ap out-Expression c.in-Parameter.is) c.in-Some-argument.ensures c.in_ok-found-in-Parameter.ensures
+value-returns-in-Some-argument t c =
+    on_ok c.value.result c.value.ensures (λ x h. v.parameter _ (ap out-Expression c.in-Parameter.is) c.in-Some-argument.ensures h)
 
-pub value-returns-in_ok-found-in-Call : goal.value-returns-in_ok-found-in-Call
-value-returns-in_ok-found-in-Call t c =
+pub value-returns-in_ok-definition-in-Call : goal.value-returns-in_ok-definition-in-Call
+value-returns-in_ok-definition-in-Call t c =
     let d = rw c.as_slice.ensures.value at c.in_ok-definition-in-Call.ensures in
-    v.call _ _ (ap out-Expression c.in-Call.is ∙ view.outs-Call c.in-Call.field-0 c.in-Call.number c.in-Call.arguments) d.0 d.1
-    (rw c.as_slice-in-Call.ensures.value at c.in_ok-found-in-Call.ensures)
+    on_ok c.value-in-Call.result c.value-in-Call.ensures (λ x h. v.call _ _ (ap out-Expression c.in-Call.is ∙ view.outs-Call c.in-Call.field-0 c.in-Call.number c.in-Call.arguments) d.0 d.1
+    (rw c.as_slice-in-Call.ensures.value at h))
 
 pub value-returns-in_ok-held-in-Not : goal.value-returns-in_ok-held-in-Not
 unfolding out-Expression denote.Hole.Carrier.out
@@ -163,15 +164,14 @@ value-returns-in-Some-negated t c =
     v.negative _ (ap out-Expression c.in-Negate.is) (rw c.deref-in-Negate.ensures at c.in_ok-held-in-Negate.ensures)
     (sym (simp to_z-of_z at c.in-Some-negated.ensures))
 
-pub value-returns-in_ok-found-in-Chain : goal.value-returns-in_ok-found-in-Chain
-value-returns-in_ok-found-in-Chain t c =
-    v.chain _ _ (ap out-Expression c.in-Chain.is ∙ view.outs-Chain c.in-Chain.field-0 c.in-Chain.first c.in-Chain.links)
-    (rw c.deref-in-Chain.ensures at c.in_ok-left-in-Chain.ensures)
-    (rw c.as_slice-in-Chain.ensures.value at c.in_ok-found-in-Chain.ensures)
+pub value-returns-in_ok-left-in-Chain : goal.value-returns-in_ok-left-in-Chain
+value-returns-in_ok-left-in-Chain t c =
+    on_ok c.linked.result c.linked.ensures (λ x h. v.chain _ _ (ap out-Expression c.in-Chain.is ∙ view.outs-Chain c.in-Chain.field-0 c.in-Chain.first c.in-Chain.links)
+    (rw c.deref-in-Chain.ensures at c.in_ok-left-in-Chain.ensures) (rw c.as_slice-in-Chain.ensures.value at h))
 
-pub value-returns-in_ok-found-in-Each : goal.value-returns-in_ok-found-in-Each
-value-returns-in_ok-found-in-Each t c =
-    v.form_of _ (ap out-Expression c.in-Each.is ∙ view.outs-Each c.in-Each.each) (rw c.deref-in-Each.ensures at c.in_ok-found-in-Each.ensures)
+pub value-returns-in-Each : goal.value-returns-in-Each
+value-returns-in-Each t c =
+    on_ok c.form_value.result c.form_value.ensures (λ x h. v.form_of _ (ap out-Expression c.in-Each.is ∙ view.outs-Each c.in-Each.each) (rw c.deref-in-Each.ensures at h))
 
 pub form_value-returns-in-Sum : goal.form_value-returns-in-Sum
 form_value-returns-in-Sum t c =

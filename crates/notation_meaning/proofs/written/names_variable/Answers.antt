@@ -1,13 +1,14 @@
-use Rattle.std.proofs.Common.{◌≡◌, sym, ◌∙◌, rules}
+use Rattle.std.proofs.Common.{sym, ◌∙◌, ap, Some}
 use Rattle.std.proofs.lemmas.Option.{slice_get-map}
 use Rattle.dbg_base.specs.Trees.{process_of}
 use Rattle.proc_tree.specs.Programs.{program_of}
 use Rattle.notation_meaning.specs.ModelPrograms.{Variable}
+use Rattle.notation_meaning.proofs.Outcomes.{on_ok}
 use Rattle.notation_meaning.proofs.AgreementPlain as lemma
 use Rattle.notation_meaning.proofs.written.names_variable.Goals as goal
 
 pub returns : goal.returns
 returns c =
-    let same : c.bytes-2.result.now ≡ c.as_slice-2.result.now = search rules in
-    lemma.names_element _ _ (rw (c.in_ok-start.ensures.items, c.bytes.ensures.value, c.as_slice.ensures.value) at c.in_ok-name.ensures)
-    (slice_get-map (λ (v : Variable). v.0) (process_of (program_of c.args.setting.now.program.now) c.args.setting.now.own.0).variables c.args.index ∙ sym c.in-Some.ensures) (sym c.bytes-2.ensures.value ∙ same ∙ c.as_slice-2.ensures.value)
+    let variables = (process_of (program_of c.args.setting.now.program.now) c.args.setting.now.own.0).variables in
+    on_ok c.check_name.result c.check_name.ensures (λ x h. lemma.names_element _ _ c.in_ok-name.ensures
+    (slice_get-map (λ (v : Variable). v.0) variables c.args.index ∙ sym c.variable_name-found.ensures ∙ h ∙ ap Some c.as_slice.ensures.value))

@@ -3,7 +3,10 @@ use Rattle.notation_tree.specs.Levels.{rank}
 use Rattle.notation_tree.proofs.parser.ModelParser.+expressions.Given as goal
 
 abbrev pub decreases-chain : goal.decreases-chain
-decreases-chain l = l.depth * 64 + rank l.level + 1
+decreases-chain l = l.depth * 64 + rank l.level + 2
+
+abbrev pub decreases-link : goal.decreases-link
+decreases-link l = l.depth * 64 + rank l.level + 1
 
 abbrev pub decreases-operand : goal.decreases-operand
 decreases-operand l = l.depth * 64 + rank l.level
