@@ -16,18 +16,10 @@ use std::alloc::{AllocError, Global};
 use ui_text::{DeclaredAs, Notes, Part, ProgramText, command_offsets, find_declaration};
 
 /// The text of a program as its author wrote it, and its expansion if it is in the notation.
+#[derive(Drop)]
 pub struct WrittenProgram {
     text: ProgramText,
     expansion: Option<Expansion>,
-}
-
-impl Drop for WrittenProgram {
-    fn drop(self) {
-        let WrittenProgram {
-            text: _,
-            expansion: _,
-        } = self;
-    }
 }
 
 /// What a text is.
