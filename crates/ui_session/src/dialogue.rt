@@ -88,6 +88,18 @@ fn told<'x>(commands: &'x CountedCommands, reply: LineReply<'x>) -> Told<'x> {
     }
 }
 
+// Has a line explained with what was said to it.
+fn explain_line<'x, T: Explainer<N>, N>(
+    explainer: &mut T,
+    view: SessionView<'x>,
+    line: &'x GivenLine<'x, N>,
+    told: Told<'x>,
+    reply: &'x [u8],
+    notes: &mut Notes,
+) -> Result<(), AllocError> {
+    explainer.explain(&Answered::new(view, line, told, reply), notes)
+}
+
 // Notes the command of this line, if it was accepted, or that one was taken back.
 fn count<N>(commands: &mut CountedCommands, line: &GivenLine<'_, N>, reply: LineReply<'_>) {
     if line.is_first {
@@ -161,13 +173,14 @@ impl<T: Explainer<N>, N> Observer<N> for Dialogue<T> {
             let kept = keep_reply(alloc, view.program, reply, &mut self.reply);
             self.is_out_of_memory |= kept.is_err();
         }
-        let answered = Answered::new(
+        let explained = explain_line(
+            &mut self.explainer,
             view,
             line,
             told(&self.commands, reply),
             self.reply.as_slice(),
+            &mut self.notes,
         );
-        let explained = self.explainer.explain(&answered, &mut self.notes);
         self.is_out_of_memory |= explained.is_err();
         count(&mut self.commands, line, reply);
         explain(&mut self.notes, writer)

@@ -1,7 +1,7 @@
 use Rattle.std.proofs.Common.{◌-◌}
 use Rattle.dbg_base.specs.declared.limits.TheConstants.{INPUT_BYTES}
 use Rattle.shell_serve.specs.Spans.{EndsWith}
-use Rattle.ui_expect.proofs.filling.fill_open.Given as goal
+use Rattle.ui_expect.proofs.filling.filled.Given as goal
 
 abbrev pub invariant-loop-lines : goal.invariant-loop-lines
 invariant-loop-lines g l = EndsWith l.lines.input.ended (g.R.Source.remaining l.reader)
