@@ -176,7 +176,7 @@ impl<T: Explainer<N>, N> Observer<N> for Dialogue<T> {
         let explained = explain_line(
             &mut self.explainer,
             view,
-            line,
+            &*line,
             told(&self.commands, reply),
             self.reply.as_slice(),
             &mut self.notes,
