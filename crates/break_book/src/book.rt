@@ -31,7 +31,6 @@ use std::marker::Model;
 
 /// The breakpoints of a session, at most 64, by name and in the order in which they were set. The book belongs to a world, and its
 /// detectors follow the world as events are made and undone. Contracts see the list of names with what is kept of each.
-#[derive(Debug)]
 pub struct Book {
     breaks: IndexMap<Name, Breakpoint>,
     // The position of the breakpoint that halts the session, from 0, or the number of breakpoints if none does.

@@ -13,7 +13,6 @@ use std::alloc::AllocError;
 use std::marker::Model;
 
 /// A breakpoint without its name: whether it is armed, and the detector of its least cut.
-#[derive(Debug)]
 pub struct Breakpoint {
     armed: bool,
     detector: Detector,

@@ -10,7 +10,7 @@ use std::alloc::{AllocError, Global};
 use std::marker::Model;
 
 /// For each process its line of choices and its place in it. Contracts see a state of the model.
-#[derive(Debug, Drop)]
+#[derive(Drop)]
 pub(crate) struct ChoiceLines {
     lines: Vec<Vec<u32>>,
     places: Vec<u32>,

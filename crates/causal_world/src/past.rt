@@ -20,7 +20,7 @@ use std::alloc::{AllocError, Global};
 use std::marker::Model;
 
 /// The events of each process, with what they did to messages, the clock after each, and the start of the process.
-#[derive(Debug, Drop)]
+#[derive(Drop)]
 pub(crate) struct Past {
     rows: Rows,
     tally: Tally,

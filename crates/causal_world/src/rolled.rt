@@ -9,7 +9,7 @@ use std::alloc::AllocError;
 use std::marker::Model;
 
 /// The choices that a step cut off.
-#[derive(Debug, Drop)]
+#[derive(Drop)]
 pub struct Cutoff {
     pub(crate) choices: Vec<u32>,
 }
@@ -23,14 +23,13 @@ impl Model for Cutoff {
 }
 
 /// An event of a process that was undone.
-#[derive(Debug, Drop)]
+#[derive(Drop)]
 pub(crate) struct Taken {
     pub(crate) pid: Pid,
     pub(crate) event: Event,
 }
 
 /// Events that were undone, in the order of the undos.
-#[derive(Debug)]
 pub struct Rolled {
     pub(crate) taken: Vec<Taken>,
     // The last of them, if it is not in that list. So a single event needs no list.

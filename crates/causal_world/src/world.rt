@@ -41,7 +41,6 @@ use std::marker::Model;
 
 /// For each process its line of choices and its place in it, its local state and its events; and for each ordered pair of processes the
 /// messages on their way. Contracts see these. A world holds no program: an event has all that is needed to undo it.
-#[derive(Debug)]
 pub struct World {
     lines: ChoiceLines,
     envs: Vec<Env>,

@@ -11,7 +11,6 @@ use std::marker::Model;
 
 /// For each process its rows in order, the first one zeros; a row has one count for each process. Contracts see these rows, and the room of
 /// each process: how many more rows it can take without allocation.
-#[derive(Debug)]
 pub struct Clocks {
     histories: Vec<ClockHistory>,
     // A buffer for the next row, with one count for each process.

@@ -9,7 +9,7 @@ use std::alloc::{AllocError, Global};
 use std::marker::Model;
 
 /// The rows of one process, one after the other, each of the same number of counts.
-#[derive(Debug, Drop)]
+#[derive(Drop)]
 pub(crate) struct ClockHistory {
     width: usize,
     counts: Vec<u32>,

@@ -16,7 +16,7 @@ const SPARE: usize = 8;
 
 /// What the events of one process did, in order. The position of each event is in one of several lists, by what it did. The last list is
 /// for all kinds without a list of their own.
-#[derive(Debug, Drop)]
+#[derive(Drop)]
 pub(crate) struct CountHistory {
     kinds: Vec<Kind>,
     lists: Vec<Places>,

@@ -7,7 +7,7 @@ ghost use Rattle.cut_core.specs.Places.{own_list};
 use dbg_base::Pid;
 
 /// What an event did.
-#[derive(Clone, Copy, Debug, PartialEq, Eq)]
+#[derive(Clone, Copy, PartialEq, Eq)]
 pub enum Kind {
     /// It sent a message to this process.
     Sent(Pid),

@@ -15,7 +15,6 @@ use std::marker::Model;
 
 /// For each process what its events did, in order. Contracts see this, and the room of each process: how many more of its events fit
 /// without allocation.
-#[derive(Debug)]
 pub struct Tally {
     histories: Vec<CountHistory>,
 }

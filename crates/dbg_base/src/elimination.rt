@@ -3,7 +3,7 @@
 use crate::ids::Pid;
 
 /// Why a local state is in no cut that satisfies a breakpoint.
-#[derive(Clone, Copy, Debug, PartialEq, Eq)]
+#[derive(Clone, Copy, PartialEq, Eq)]
 pub enum Cause {
     /// The conjunct of its process is false in it.
     FalseAt,
@@ -12,7 +12,7 @@ pub enum Cause {
 }
 
 /// A step of the search. If all satisfying cuts have at least `from` events of the process, all have at least `to`.
-#[derive(Clone, Copy, Debug, PartialEq, Eq)]
+#[derive(Clone, Copy, PartialEq, Eq)]
 pub struct Elimination {
     pub pid: Pid,
     pub from: u32,

@@ -20,7 +20,7 @@ pub trait Gate: Sync {
 }
 
 /// A gate that bars no turn.
-#[derive(Clone, Copy, Debug, Drop)]
+#[derive(Clone, Copy, Drop)]
 pub struct OpenGate;
 
 impl Gate for OpenGate {

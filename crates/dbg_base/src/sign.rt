@@ -1,7 +1,7 @@
 //! Signs of the process language.
 
 /// A sign of the process language.
-#[derive(Clone, Copy, Debug, PartialEq, Eq)]
+#[derive(Clone, Copy, PartialEq, Eq)]
 pub enum Sign {
     OpenBrace,
     CloseBrace,

@@ -7,7 +7,7 @@ use dbg_base::Plan;
 
 /// A plan that may be given: if it is a batch, it has at most 32 commands, none of which is a batch. So code that makes a command of each
 /// plan by its kind can make a batch of it.
-#[derive(Debug, Drop)]
+#[derive(Drop)]
 pub struct Givable {
     pub plan: Plan,
     pub ghost givable: { ∥ IsGivable plan ∥₁ },

@@ -19,7 +19,6 @@ use std::alloc::Global;
 use std::marker::Model;
 
 /// A world and the breakpoints in it. Their detectors follow the world. Contracts see these two.
-#[derive(Debug)]
 pub struct Table {
     pub(crate) world: World,
     pub(crate) book: Book,

@@ -16,7 +16,7 @@ use proc_tree::Program;
 use std::alloc::Global;
 
 // Events that were undone, and the places before that.
-#[derive(Debug, Drop)]
+#[derive(Drop)]
 pub(crate) struct TakenBack {
     pub(crate) rolled: Rolled,
     pub(crate) places: Cut,

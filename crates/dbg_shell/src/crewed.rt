@@ -12,7 +12,7 @@ use shell_io::Sink;
 use shell_print::{ServeFault, print_differs, print_settled};
 
 /// How a run of workers ended if nothing failed.
-#[derive(Clone, Copy, Debug, PartialEq, Eq)]
+#[derive(Clone, Copy, PartialEq, Eq)]
 pub enum Crewed {
     /// All turns were given, and the journal has the same answers as the seats.
     Done,

@@ -40,7 +40,7 @@ pub enum Work<'a> {
 }
 
 /// What the arguments ask for.
-#[derive(Debug, Drop)]
+#[derive(Drop)]
 pub enum Request<'a> {
     /// This work, with the file of this name, or with standard input.
     Work(Work<'a>, Option<&'a str>),

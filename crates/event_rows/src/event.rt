@@ -14,7 +14,6 @@ use std::marker::Model;
 
 /// An event of a process: the command that it made, the variables that it set, with their values before and after, and what it sent
 /// or received.
-#[derive(Debug)]
 pub struct Event {
     choice: Choice,
     settings: SmallVec<Setting, 2>,

@@ -8,7 +8,7 @@ use local_eval::Env;
 
 /// What an event does besides its settings. The count is what the process counts after the event: 1 for its first message to the target, or
 /// from the source.
-#[derive(Clone, Copy, Debug, PartialEq, Eq)]
+#[derive(Clone, Copy, PartialEq, Eq)]
 pub enum Exchange {
     /// Nothing.
     Nothing,

@@ -8,7 +8,7 @@ use std::alloc::{AllocError, Global};
 use std::marker::Model;
 
 /// The events of one process, in order.
-#[derive(Debug, Drop)]
+#[derive(Drop)]
 pub(crate) struct EventHistory {
     events: Vec<Event>,
 }

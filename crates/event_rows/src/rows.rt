@@ -20,7 +20,6 @@ use std::marker::Model;
 
 /// For each process its start and its events, in order. Contracts see these, and the room of each process: how many more events fit without
 /// allocation.
-#[derive(Debug)]
 pub struct Rows {
     starts: Vec<Env>,
     histories: Vec<EventHistory>,

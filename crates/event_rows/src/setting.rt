@@ -7,7 +7,7 @@ ghost use Rattle.event_rows.specs.Settings.{new_values, with_old_values};
 use local_eval::Env;
 
 /// A variable that is set, with its old value and its new one.
-#[derive(Clone, Copy, Debug, Default, PartialEq, Eq)]
+#[derive(Clone, Copy, Default, PartialEq, Eq)]
 pub struct Setting {
     pub variable: u32,
     pub old: i64,

@@ -12,7 +12,6 @@ use std::marker::Model;
 
 /// For each ordered pair of processes the messages from the first to the second. Contracts see these lists, and the room of each: how many
 /// more messages it can take without allocation.
-#[derive(Debug)]
 pub struct Grid {
     rows: Vec<Vec<Queue>>,
 }

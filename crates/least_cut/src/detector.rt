@@ -38,7 +38,6 @@ use std::marker::Model;
 /// belongs to a world, and follows it as events are made and undone. Contracts see these, and its room.
 ///
 /// The algorithm eliminates candidates, as Garg and Waldecker (1994) do for weak conjunctive predicates.
-#[derive(Debug)]
 pub struct Detector {
     watches: Vec<Watch>,
     candidates: Cut,

@@ -17,7 +17,7 @@ use std::alloc::AllocError;
 use std::marker::Model;
 
 /// A conjunct, where it is true, and the last local state of its process. Contracts see this, and how many truths fit without allocation.
-#[derive(Debug, Drop)]
+#[derive(Drop)]
 pub(crate) struct Watch {
     truths: Truths,
     expr: Expr,

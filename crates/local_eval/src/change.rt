@@ -14,7 +14,7 @@ use smallvec::SmallVec;
 use std::alloc::Global;
 
 /// The effect of a command that fires.
-#[derive(Debug, Drop)]
+#[derive(Drop)]
 pub struct Change {
     /// The variables that are set, each with its new value, in this order.
     pub sets: SmallVec<(u32, i64), 2>,

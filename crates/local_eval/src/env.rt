@@ -13,7 +13,6 @@ use std::marker::Model;
 
 /// The local state of a process: the values of its variables, by their numbers from 0, and for each process how many messages it has sent
 /// to that process and received from it. Contracts see these three lists.
-#[derive(Debug)]
 pub struct Env {
     values: Vec<i64>,
     sent: Vec<u32>,

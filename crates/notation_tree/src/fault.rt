@@ -9,7 +9,7 @@ use dbg_base::{FaultKind, Name};
 use std::alloc::{AllocError, AllocFailed};
 
 /// What a text has to have at a place.
-#[derive(Clone, Copy, Debug, PartialEq, Eq)]
+#[derive(Clone, Copy, PartialEq, Eq)]
 pub enum Expected {
     Mark(Mark),
     Name,
@@ -27,7 +27,7 @@ pub enum Expected {
 }
 
 /// What a name means.
-#[derive(Clone, Copy, Debug, PartialEq, Eq)]
+#[derive(Clone, Copy, PartialEq, Eq)]
 pub enum Meaning {
     Constant,
     Definition,
@@ -37,7 +37,7 @@ pub enum Meaning {
 }
 
 /// What is wrong.
-#[derive(Clone, Copy, Debug, PartialEq, Eq)]
+#[derive(Clone, Copy, PartialEq, Eq)]
 pub enum Problem {
     /// A byte begins no token.
     Byte,
@@ -96,14 +96,14 @@ pub enum Problem {
 }
 
 /// A member of a range, and its value in a copy.
-#[derive(Clone, Copy, Debug)]
+#[derive(Clone, Copy)]
 pub struct MemberValue {
     pub name: Name,
     pub value: i64,
 }
 
 /// Why a text was not expanded.
-#[derive(Debug, Drop)]
+#[derive(Drop)]
 pub enum NotationError {
     Bad(Fault),
     /// Memory ran out.
@@ -111,7 +111,7 @@ pub enum NotationError {
 }
 
 /// A fault of a text: what is wrong, the offset at which it is, and in which copy.
-#[derive(Debug, Drop)]
+#[derive(Drop)]
 pub struct Fault {
     problem: Problem,
     at: usize,

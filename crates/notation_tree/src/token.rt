@@ -6,7 +6,7 @@ ghost use Rattle.dbg_base.specs.Tokens.{is_space, is_word_byte};
 use crate::fault::Problem;
 
 /// A mark of the notation: those of the process language, and `[`, `]` and `..`.
-#[derive(Clone, Copy, Debug, PartialEq, Eq)]
+#[derive(Clone, Copy, PartialEq, Eq)]
 pub enum Mark {
     OpenBrace,
     CloseBrace,

@@ -25,7 +25,7 @@ use proc_tree::Program;
 use std::alloc::Global;
 
 /// The word of a command that names a process.
-#[derive(Clone, Copy, Debug)]
+#[derive(Clone, Copy)]
 pub enum PlanWord {
     Next,
     Undo,
@@ -47,7 +47,7 @@ impl PlanWord {
 }
 
 /// The word of a query that names a process.
-#[derive(Clone, Copy, Debug)]
+#[derive(Clone, Copy)]
 pub enum QueryWord {
     Vars,
     Clock,
@@ -71,7 +71,7 @@ impl QueryWord {
 }
 
 /// A command word about a process.
-#[derive(Clone, Copy, Debug)]
+#[derive(Clone, Copy)]
 pub enum ProcessWord {
     Plan(PlanWord),
     Query(QueryWord),

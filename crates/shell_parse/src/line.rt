@@ -24,7 +24,7 @@ pub struct Line {
 }
 
 /// What a command line about a process asks for: its seat, its word and the process.
-#[derive(Clone, Copy, Debug)]
+#[derive(Clone, Copy)]
 pub struct ProcessLine {
     pub seat: u32,
     pub word: ProcessWord,

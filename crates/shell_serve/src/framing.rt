@@ -26,7 +26,7 @@ const _: () = prove!(ROOM == INPUT_BYTES + 1);
 const CHUNK: usize = 512;
 
 /// The position of a line in the bytes that were read: the offset of its first byte, and the offset after its last.
-#[derive(Clone, Copy, Debug, PartialEq, Eq)]
+#[derive(Clone, Copy, PartialEq, Eq)]
 pub struct Span {
     /// The offset of its first byte.
     pub from: usize,
@@ -35,7 +35,7 @@ pub struct Span {
 }
 
 /// What comes next in the input.
-#[derive(Clone, Copy, Debug, PartialEq, Eq)]
+#[derive(Clone, Copy, PartialEq, Eq)]
 pub enum Next {
     /// A line, without its line end.
     Line(Span),
@@ -46,7 +46,7 @@ pub enum Next {
 }
 
 /// All bytes that were read so far, and how far they were searched.
-#[derive(Debug, Drop)]
+#[derive(Drop)]
 pub struct Input {
     /// The bytes that were read.
     pub bytes: Vec<u8>,

@@ -17,7 +17,7 @@ use shell_parse::without_return;
 use shell_print::ServeFault;
 
 /// Where the program text ends.
-#[derive(Clone, Copy, Debug, PartialEq, Eq)]
+#[derive(Clone, Copy, PartialEq, Eq)]
 pub enum TextEnd {
     /// Before this line, the first that is `%%`.
     Before(Span),

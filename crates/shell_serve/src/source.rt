@@ -18,7 +18,7 @@ use shell_io::{GivenLine, Source};
 use shell_print::ServeFault;
 
 /// How a line was answered.
-#[derive(Clone, Copy, Debug, PartialEq, Eq)]
+#[derive(Clone, Copy, PartialEq, Eq)]
 pub enum Answer {
     /// It made no call, and was not refused: it is blank, or the session answered it itself.
     Nothing,

@@ -18,7 +18,7 @@ pub enum PlayedLine {
 }
 
 /// The comparison of the expected replies of a session with the replies that it has.
-#[derive(Clone, Copy, Debug, PartialEq, Eq)]
+#[derive(Clone, Copy, PartialEq, Eq)]
 pub struct Comparison {
     /// The position, from 0, of the first line that expects another reply than the line before it has.
     pub wrong: Option<usize>,

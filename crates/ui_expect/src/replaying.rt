@@ -22,7 +22,7 @@ use ui_text::{Notes, Part};
 use ui_view::{Echo, Explainer};
 
 /// How a session went on an edited program.
-#[derive(Clone, Copy, Debug, PartialEq, Eq)]
+#[derive(Clone, Copy, PartialEq, Eq)]
 pub enum Replayed {
     /// As before.
     Same,

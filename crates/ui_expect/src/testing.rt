@@ -19,7 +19,7 @@ use ui_text::{Notes, Part};
 use ui_view::{Echo, Explainer};
 
 /// The result of a session in which a line `> REPLY` gives the expected reply to the command line before it.
-#[derive(Clone, Copy, Debug, PartialEq, Eq)]
+#[derive(Clone, Copy, PartialEq, Eq)]
 pub enum Tested {
     /// Each reply was the expected one.
     Passed,

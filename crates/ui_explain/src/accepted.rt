@@ -8,7 +8,7 @@ use ui_text::{Notes, Part};
 use ui_view::EventNews;
 
 /// What has to be known of a session before a call: how many events each process had, and how long its line was.
-#[derive(Debug, Drop)]
+#[derive(Drop)]
 pub struct Before {
     places: Vec<(u32, u32)>,
     // If it says what an undo is about to undo, how many lines the explanation had before that.

@@ -8,7 +8,7 @@ use serde_json::Value;
 use std::alloc::{AllocError, Global};
 
 /// Why something was not recorded.
-#[derive(Clone, Copy, Debug, PartialEq, Eq)]
+#[derive(Clone, Copy, PartialEq, Eq)]
 pub enum Incomplete {
     /// Memory ran out, or a text has a `<` or a line end. Lists write no text that has one.
     Memory,

@@ -14,7 +14,7 @@ use ui_text::{Notes, Part};
 use ui_timeline::unknown_name;
 
 /// How a drawing ended if nothing failed.
-#[derive(Clone, Copy, Debug, PartialEq, Eq)]
+#[derive(Clone, Copy, PartialEq, Eq)]
 pub enum Drawn {
     /// The session ended so. It was drawn, unless its program was refused.
     Played(Served),

@@ -11,7 +11,7 @@ use shell_serve::LineSort;
 use ui_view::Directive;
 
 // The first word of each directive that is answered.
-#[derive(Clone, Copy, Debug, PartialEq, Eq)]
+#[derive(Clone, Copy, PartialEq, Eq)]
 pub(crate) enum Verb {
     Help,
     On,

@@ -5,7 +5,7 @@ use crate::source::prefix_word;
 use std::alloc::{AllocError, Global};
 
 /// What a name is declared as.
-#[derive(Clone, Copy, Debug, PartialEq, Eq)]
+#[derive(Clone, Copy, PartialEq, Eq)]
 pub enum DeclaredAs {
     Process,
     Variable,
@@ -14,7 +14,7 @@ pub enum DeclaredAs {
 }
 
 /// A declaration of a name.
-#[derive(Clone, Copy, Debug)]
+#[derive(Clone, Copy)]
 pub struct Declaration<'a> {
     pub name: &'a [u8],
     pub kind: DeclaredAs,

@@ -33,7 +33,7 @@ pub enum Part<'a> {
 }
 
 /// A style that a line has from this byte on, up to the next change.
-#[derive(Clone, Copy, Debug)]
+#[derive(Clone, Copy)]
 pub struct StyleChange {
     pub at: usize,
     pub style: Style,
@@ -50,7 +50,7 @@ pub struct NoteLine<'a> {
 }
 
 // Where a line begins in the text of all lines, after its two blanks, and in the changes of all lines.
-#[derive(Clone, Copy, Debug)]
+#[derive(Clone, Copy)]
 struct LineStart {
     text: usize,
     changes: usize,
@@ -58,7 +58,7 @@ struct LineStart {
 }
 
 /// The lines of an explanation. They share one text, so that those which are cleared and filled again need no new memory.
-#[derive(Debug, Drop)]
+#[derive(Drop)]
 pub struct Notes {
     // The text, and blanks after it, as room for more.
     text: Vec<u8>,

@@ -5,7 +5,7 @@ use itoa::Buffer;
 use std::alloc::{AllocError, Global};
 
 // The offset at which a command begins, and its label. A command without a label has an empty one.
-#[derive(Debug, Drop)]
+#[derive(Drop)]
 struct CommandPlace {
     at: usize,
     label: Vec<u8>,
@@ -14,7 +14,7 @@ struct CommandPlace {
 }
 
 // The names of a process, in the plain program and as it was written, the names of its variables, and its commands, in order.
-#[derive(Debug, Drop)]
+#[derive(Drop)]
 struct ProcessWords {
     name: Vec<u8>,
     written: Vec<u8>,
@@ -26,7 +26,7 @@ struct ProcessWords {
 const SHOWN: usize = 160;
 
 /// A program's text, as it was written, with the names of its processes and variables, and the place of each command.
-#[derive(Debug, Drop)]
+#[derive(Drop)]
 pub struct ProgramText {
     text: Vec<u8>,
     // The offset at which each line begins.

@@ -15,7 +15,6 @@ use std::alloc::{AllocError, Global};
 
 /// An event: its process, its number in the process, from 1, and its clock: how many events of each process are in its causal past, with
 /// the event itself.
-#[derive(Debug)]
 pub struct TimedEvent {
     pub pid: Pid,
     pub number: u32,

@@ -1,7 +1,7 @@
 //! The lines that an interactive session answers itself.
 
 /// A line that an interactive session answers itself, without a call. The name of a process is empty if the line has none.
-#[derive(Clone, Copy, Debug, PartialEq, Eq)]
+#[derive(Clone, Copy, PartialEq, Eq)]
 pub enum Directive<'a> {
     /// A comment, an expectation or a blank line. It has no answer.
     Remark,

@@ -9,7 +9,7 @@ use std::alloc::{AllocError, Global};
 use ui_text::Notes;
 
 /// How a line is written before its reply.
-#[derive(Clone, Copy, Debug, PartialEq, Eq)]
+#[derive(Clone, Copy, PartialEq, Eq)]
 pub enum Echo {
     /// Not at all.
     Nothing,

@@ -6,7 +6,7 @@ ghost use Rattle.ui_view.specs.Hindrances.{refusal_of};
 use dbg_base::{Pid, Refusal};
 
 /// What prevents a command of a process from firing.
-#[derive(Clone, Copy, Debug, PartialEq, Eq)]
+#[derive(Clone, Copy, PartialEq, Eq)]
 pub enum Hindrance {
     /// The process has no such command.
     NoCommand,

@@ -14,7 +14,7 @@ use std::alloc::Global;
 use std::mem;
 
 /// Commands of the other kinds, one after the other, of which all are accepted or none. It keeps the whole table before them.
-#[derive(Debug, Drop)]
+#[derive(Drop)]
 pub struct BatchCmd {
     plan: Plan,
     table: Option<Table>,

@@ -14,7 +14,7 @@ use proc_tree::Program;
 use std::alloc::Global;
 
 /// Sets a breakpoint, armed. It keeps only the name.
-#[derive(Debug, Drop)]
+#[derive(Drop)]
 pub struct BreakCmd {
     plan: Plan,
     applied: bool,
@@ -76,7 +76,7 @@ impl Command for BreakCmd {
 }
 
 /// Removes a breakpoint. It keeps the breakpoint, with its position.
-#[derive(Debug, Drop)]
+#[derive(Drop)]
 pub struct ClearCmd {
     plan: Plan,
     name: Name,
@@ -140,7 +140,7 @@ impl Command for ClearCmd {
 }
 
 /// Arms a breakpoint. It keeps nothing: the breakpoint was not armed before.
-#[derive(Debug, Drop)]
+#[derive(Drop)]
 pub struct ArmCmd {
     plan: Plan,
     name: Name,
@@ -198,7 +198,7 @@ impl Command for ArmCmd {
 }
 
 /// Disarms a breakpoint that halts the session. It keeps nothing: the breakpoint was armed before.
-#[derive(Debug, Drop)]
+#[derive(Drop)]
 pub struct PassCmd {
     plan: Plan,
     name: Name,

@@ -14,7 +14,7 @@ use proc_tree::Program;
 use std::alloc::Global;
 
 /// Makes a process fire a command. It keeps the choices that were cut off the line.
-#[derive(Debug, Drop)]
+#[derive(Drop)]
 pub struct StepCmd {
     plan: Plan,
     pid: Pid,
@@ -85,7 +85,7 @@ impl Command for StepCmd {
 }
 
 /// Makes a process fire its first command that can fire. It keeps the choices that were cut off the line.
-#[derive(Debug, Drop)]
+#[derive(Drop)]
 pub struct NextCmd {
     plan: Plan,
     pid: Pid,
@@ -154,7 +154,7 @@ impl Command for NextCmd {
 }
 
 /// Makes a process fire the choice at its place again. It keeps nothing: the line stays.
-#[derive(Debug, Drop)]
+#[derive(Drop)]
 pub struct RedoCmd {
     plan: Plan,
     pid: Pid,

@@ -15,7 +15,7 @@ use proc_tree::Program;
 use std::alloc::Global;
 
 /// Undoes the last event of a process. It keeps the event.
-#[derive(Debug, Drop)]
+#[derive(Drop)]
 pub struct UndoCmd {
     plan: Plan,
     pid: Pid,
@@ -73,7 +73,7 @@ impl Command for UndoCmd {
 }
 
 /// Takes a process back to a count of events, and the others no further than they must go. It keeps the undone events.
-#[derive(Debug, Drop)]
+#[derive(Drop)]
 pub struct RollbackCmd {
     plan: Plan,
     pid: Pid,
@@ -133,7 +133,7 @@ impl Command for RollbackCmd {
 }
 
 /// Takes all processes back to a breakpoint's cut. It keeps the undone events.
-#[derive(Debug, Drop)]
+#[derive(Drop)]
 pub struct GotoCmd {
     plan: Plan,
     name: Name,
