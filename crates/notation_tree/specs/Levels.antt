@@ -4,8 +4,8 @@ use Rattle.notation_tree.specs.declared.parser.Level.{Level}
 use Rattle.notation_tree.specs.declared.parser.Level.TheVariants.{Or, And, Comparison, Sum, Product}
 
 abbrev pub rank : Level → ℕ
-rank Or = 50
-rank And = 47
-rank Comparison = 43
-rank Sum = 40
-rank Product = 37
+rank Or = 56
+rank And = 51
+rank Comparison = 46
+rank Sum = 42
+rank Product = 38

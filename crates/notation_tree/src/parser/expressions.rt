@@ -2,7 +2,7 @@
 
 ghost use Rattle.std.specs.Prelude.{◌≡◌, ◌+◌, IfOk};
 
-use super::{Level, ModelParser, is_reserved};
+use super::{Level, ModelParser, Written, is_reserved};
 use crate::fault::{Expanding, ExpansionStop, Expected, Problem};
 use crate::scope::Binding;
 use crate::syntax::{Binder, Each, Expression, FormNode, Link, Reference, enclosed};
@@ -61,6 +61,13 @@ impl<'a> ModelParser<'a> {
         if self.operator(level).is_none() {
             return Ok(first);
         }
+        let links = self.links(level, depth)?;
+        self.chained(at, first, links)
+    }
+
+    // The operators of this precedence that follow, each with its right operand.
+    #[cycle(expressions)]
+    fn links(&mut self, level: Level, depth: u32) -> Expanding<Vec<Link>> {
         let mut links = Vec::new(self.alloc);
         for _ in self.next..self.tokens.len() {
             let Some(operator) = self.operator(level) else {
@@ -68,7 +75,20 @@ impl<'a> ModelParser<'a> {
             };
             links.push(self.link(operator, level, depth)?)?;
         }
+        Ok(links)
+    }
+
+    // An operand, and operators with their right operands after it.
+    fn chained(&self, at: usize, first: Expression, links: Vec<Link>) -> Expanding<Expression> {
         Ok(Expression::Chain(at, Box::new(self.alloc, first)?, links))
+    }
+
+    // Operands with operators of this precedence between them, and this mark.
+    #[cycle(expressions)]
+    pub(crate) fn closed(&mut self, level: Level, depth: u32, mark: Mark) -> Expanding<Expression> {
+        let expression = self.chain(level, depth)?;
+        self.mark(mark)?;
+        Ok(expression)
     }
 
     // An operator, which is the next token, and its right operand.
@@ -110,13 +130,19 @@ impl<'a> ModelParser<'a> {
         let Some(operator) = self.comparison() else {
             return Ok(first);
         };
-        let link = self.link(operator, Level::Comparison, depth)?;
+        let links = self.compared(operator, depth)?;
+        self.chained(at, first, links)
+    }
+
+    // A comparison, which is the next token, and its right operand. No other comparison follows.
+    #[cycle(expressions)]
+    fn compared(&mut self, operator: Operator, depth: u32) -> Expanding<Vec<Link>> {
+        let mut links = Vec::new(self.alloc);
+        links.push(self.link(operator, Level::Comparison, depth)?)?;
         if self.comparison().is_some() {
             return Err(ExpansionStop::Bad(Problem::ComparisonChain, self.at()));
         }
-        let mut links = Vec::new(self.alloc);
-        links.push(link)?;
-        Ok(Expression::Chain(at, Box::new(self.alloc, first)?, links))
+        Ok(links)
     }
 
     // A minus and its operand, or an operand without a minus.
@@ -145,8 +171,7 @@ impl<'a> ModelParser<'a> {
             SourceTokenKind::Mark(Mark::OpenParenthesis) => {
                 let inner = self.deeper(depth)?;
                 self.pass();
-                let expression = self.chain(Level::Or, inner)?;
-                self.mark(Mark::CloseParenthesis)?;
+                let expression = self.closed(Level::Or, inner, Mark::CloseParenthesis)?;
                 Ok(enclosed(expression, at))
             }
             _ => Err(self.unexpected(Expected::Expression)),
@@ -165,11 +190,7 @@ impl<'a> ModelParser<'a> {
             return Ok(Expression::Truth(at, word == b"true".as_slice()));
         }
         if let Some(direction) = direction_of(word) {
-            self.pass();
-            self.mark(Mark::OpenParenthesis)?;
-            let other = self.reference(depth)?;
-            self.mark(Mark::CloseParenthesis)?;
-            return Ok(Expression::Count(at, direction, other));
+            return Ok(Expression::Count(at, direction, self.counterpart(depth)?));
         }
         if is_reserved(word) {
             return Err(self.unexpected(Expected::Expression));
@@ -182,6 +203,16 @@ impl<'a> ModelParser<'a> {
             Some(form) => self.each(form, depth),
             None => self.call(depth),
         }
+    }
+
+    // The process to or from which messages are counted, in parentheses after the word.
+    #[cycle(expressions)]
+    fn counterpart(&mut self, depth: u32) -> Expanding<Reference> {
+        self.pass();
+        self.mark(Mark::OpenParenthesis)?;
+        let other = self.reference(depth)?;
+        self.mark(Mark::CloseParenthesis)?;
+        Ok(other)
     }
 
     // What a name without arguments means.
@@ -211,17 +242,21 @@ impl<'a> ModelParser<'a> {
             if !self.is_mark(Mark::OpenBracket) {
                 break;
             }
-            let inner = self.deeper(depth)?;
-            self.pass();
-            let index = self.chain(Level::Or, inner)?;
-            self.mark(Mark::CloseBracket)?;
-            indices.push(index)?;
+            indices.push(self.index(depth)?)?;
         }
         Ok(Reference {
             at: written.at,
             name: written.name,
             indices,
         })
+    }
+
+    // An index in brackets.
+    #[cycle(expressions)]
+    fn index(&mut self, depth: u32) -> Expanding<Expression> {
+        let inner = self.deeper(depth)?;
+        self.pass();
+        self.closed(Level::Or, inner, Mark::CloseBracket)
     }
 
     // A definition and its arguments.
@@ -233,17 +268,28 @@ impl<'a> ModelParser<'a> {
         };
         let inner = self.deeper(depth)?;
         self.mark(Mark::OpenParenthesis)?;
+        let arguments = self.arguments(inner)?;
+        self.end_arguments(wanted, arguments.len(), name.at)?;
+        Ok(Expression::Call(name.at, number, arguments))
+    }
+
+    // Arguments, with commas between them.
+    #[cycle(expressions)]
+    fn arguments(&mut self, depth: u32) -> Expanding<Vec<Expression>> {
         let mut arguments = Vec::new(self.alloc);
         for _ in self.next..self.tokens.len() {
-            let argument = self.chain(Level::Or, inner)?;
-            arguments.push(argument)?;
+            arguments.push(self.chain(Level::Or, depth)?)?;
             if !self.passes_mark(Mark::Comma) {
                 break;
             }
         }
+        Ok(arguments)
+    }
+
+    // The end of so many arguments; so many are wanted.
+    fn end_arguments(&mut self, wanted: usize, found: usize, at: usize) -> Expanding<()> {
         self.mark(Mark::CloseParenthesis)?;
-        check_arguments(wanted, arguments.len(), name.at)?;
-        Ok(Expression::Call(name.at, number, arguments))
+        check_arguments(wanted, found, at)
     }
 
     // `all`, `some`, `sum` or `at_least`.
@@ -253,19 +299,12 @@ impl<'a> ModelParser<'a> {
         let inner = self.deeper(depth)?;
         self.pass();
         self.mark(Mark::OpenParenthesis)?;
-        let mut least = None;
-        if form == FormNode::AtLeast {
-            least = Some(self.chain(Level::Or, inner)?);
-            self.mark(Mark::Comma)?;
-        }
+        let least = self.least(form, inner)?;
         let mark = self.scope.mark();
         self.repeats = self.repeats.saturating_add(1);
-        let binder = self.binder(inner)?;
-        self.mark(Mark::Colon)?;
-        let body = self.chain(Level::Or, inner)?;
+        let (binder, body) = self.bound(inner)?;
         self.repeats = self.repeats.saturating_sub(1);
         self.scope.leave(mark);
-        self.mark(Mark::CloseParenthesis)?;
         let each = Each {
             at,
             form,
@@ -274,6 +313,30 @@ impl<'a> ModelParser<'a> {
             body,
         };
         Ok(Expression::Each(Box::new(self.alloc, each)?))
+    }
+
+    // The number of an `at_least`, up to its comma.
+    #[cycle(expressions)]
+    fn least(&mut self, form: FormNode, depth: u32) -> Expanding<Option<Expression>> {
+        match form {
+            FormNode::AtLeast => Ok(Some(self.closed(Level::Or, depth, Mark::Comma)?)),
+            FormNode::All | FormNode::Some | FormNode::Sum => Ok(None),
+        }
+    }
+
+    // A member, and the expression after its colon, up to a closing parenthesis.
+    #[cycle(expressions)]
+    fn bound(&mut self, depth: u32) -> Expanding<(Binder, Expression)> {
+        let binder = self.binder(depth)?;
+        let body = self.body(depth)?;
+        Ok((binder, body))
+    }
+
+    // A colon, and an expression up to a closing parenthesis.
+    #[cycle(expressions)]
+    fn body(&mut self, depth: u32) -> Expanding<Expression> {
+        self.mark(Mark::Colon)?;
+        self.closed(Level::Or, depth, Mark::CloseParenthesis)
     }
 
     /// A member, its range, and the condition after `where`.
@@ -291,18 +354,30 @@ impl<'a> ModelParser<'a> {
     pub(crate) fn ranged(&mut self, depth: u32) -> Expanding<Binder> {
         let name = self.name()?;
         self.mark(Mark::Colon)?;
-        let low = self.chain(Level::Sum, depth)?;
-        self.mark(Mark::Range)?;
-        let high = self.chain(Level::Sum, depth)?;
+        let (low, high) = self.range(depth)?;
         let member = self.members.saturating_add(self.tables.members.len());
-        self.tables.members.push(name.name)?;
-        self.declare(&name, Binding::Member(member))?;
-        Ok(Binder {
+        let binder = Binder {
             at: name.at,
             member,
             low,
             high,
             condition: None,
-        })
+        };
+        self.declare_member(&name, member)?;
+        Ok(binder)
+    }
+
+    // The bounds of a range.
+    #[cycle(expressions)]
+    fn range(&mut self, depth: u32) -> Expanding<(Expression, Expression)> {
+        let low = self.closed(Level::Sum, depth, Mark::Range)?;
+        let high = self.chain(Level::Sum, depth)?;
+        Ok((low, high))
+    }
+
+    // Gives a name the meaning of the member of this number, which is new.
+    fn declare_member(&mut self, name: &Written, member: usize) -> Expanding<()> {
+        self.tables.members.push(name.name)?;
+        self.declare(name, Binding::Member(member))
     }
 }

@@ -1,26 +1,38 @@
 //! Declarations and items.
 
-use super::ModelParser;
 use super::expressions::is_form;
+use super::{Level, ModelParser};
 use crate::fault::{Expanding, ExpansionStop, Expected, Problem};
 use crate::limits::{NESTING, PARAMETERS, REPEATS};
 use crate::model::ParsedModel;
 use crate::scope::{Binding, ModelScope};
 use crate::syntax::{
     ActionNode, AssignmentNode, Binder, CommandNode, Constant, DeclarationNode, Definition,
-    ItemNode, Label, ProcessNode, Reference, VariableNode,
+    Expression, ItemNode, Label, ProcessNode, Reference, VariableNode,
 };
 use crate::token::{Mark, SourceToken};
 use std::alloc::Global;
 
+// Items in braces, with the offsets of these.
+#[derive(Drop)]
+struct Block {
+    open: usize,
+    items: Vec<ItemNode>,
+    close: usize,
+}
+
 impl<'a> ModelParser<'a> {
+    // An expression after `=`, up to a `;`.
+    fn value(&mut self) -> Expanding<Expression> {
+        self.mark(Mark::Equals)?;
+        self.closed(Level::Or, NESTING, Mark::Semicolon)
+    }
+
     // `const`, a name and its value.
     fn constant(&mut self) -> Expanding<Constant> {
         self.pass();
         let name = self.name()?;
-        self.mark(Mark::Equals)?;
-        let value = self.expression()?;
-        self.mark(Mark::Semicolon)?;
+        let value = self.value()?;
         let number = self.tables.constants;
         self.tables.constants = number.saturating_add(1);
         self.declare(&name, Binding::Constant(number))?;
@@ -55,9 +67,7 @@ impl<'a> ModelParser<'a> {
         let mark = self.scope.mark();
         let first = self.tables.parameters;
         let count = self.parameters()?;
-        self.mark(Mark::Equals)?;
-        let body = self.expression()?;
-        self.mark(Mark::Semicolon)?;
+        let body = self.value()?;
         self.scope.leave(mark);
         let number = self.tables.definitions.len();
         self.tables
@@ -73,11 +83,23 @@ impl<'a> ModelParser<'a> {
             if !self.passes_mark(Mark::OpenBracket) {
                 break;
             }
-            let binder = self.ranged(NESTING)?;
-            self.mark(Mark::CloseBracket)?;
-            ranges.push(binder)?;
+            ranges.push(self.closed_range()?)?;
         }
         Ok(ranges)
+    }
+
+    // A member and its range, up to a closing bracket.
+    fn closed_range(&mut self) -> Expanding<Binder> {
+        let binder = self.ranged(NESTING)?;
+        self.mark(Mark::CloseBracket)?;
+        Ok(binder)
+    }
+
+    // The ranges and the value of a variable.
+    fn ranges_and_value(&mut self) -> Expanding<(Vec<Binder>, Expression)> {
+        let ranges = self.ranges()?;
+        let value = self.value()?;
+        Ok((ranges, value))
     }
 
     // A variable, or a family of variables.
@@ -87,20 +109,18 @@ impl<'a> ModelParser<'a> {
         let name = self.name()?;
         let mark = self.scope.mark();
         self.repeats = self.repeats.saturating_add(1);
-        let ranges = self.ranges()?;
-        self.mark(Mark::Equals)?;
-        let value = self.expression()?;
-        self.mark(Mark::Semicolon)?;
+        let (ranges, value) = self.ranges_and_value()?;
         self.repeats = self.repeats.saturating_sub(1);
         self.scope.leave(mark);
-        self.declare(&name, Binding::Variable)?;
-        Ok(VariableNode {
+        let variable = VariableNode {
             at,
             name_at: name.at,
             name: name.name,
             ranges,
             value,
-        })
+        };
+        self.declare(&name, Binding::Variable)?;
+        Ok(variable)
     }
 
     // An assignment.
@@ -109,9 +129,14 @@ impl<'a> ModelParser<'a> {
             return Err(self.unexpected(Expected::Action));
         }
         let target = self.reference(NESTING)?;
-        let at = self.mark(Mark::Becomes)?;
-        let value = self.expression()?;
+        let (at, value) = self.assigned()?;
         Ok(AssignmentNode { target, at, value })
+    }
+
+    // The value of an assignment, and the offset of `:=` before it.
+    fn assigned(&mut self) -> Expanding<(usize, Expression)> {
+        let at = self.mark(Mark::Becomes)?;
+        Ok((at, self.expression()?))
     }
 
     // A send or a receive, if there is one.
@@ -145,15 +170,36 @@ impl<'a> ModelParser<'a> {
         Ok(assignments)
     }
 
+    // A guard, and the offset of the colon after it.
+    fn guard(&mut self) -> Expanding<(Expression, usize)> {
+        let guard = self.expression()?;
+        let colon = self.mark(Mark::Colon)?;
+        Ok((guard, colon))
+    }
+
+    // What a command does, and the offset of the `;` after it.
+    fn effect(&mut self) -> Expanding<(ActionNode, Vec<AssignmentNode>, usize)> {
+        let action = self.action()?;
+        let (assignments, end) = self.ended_assignments(&action)?;
+        Ok((action, assignments, end))
+    }
+
+    // The assignments of a command, and the offset of the `;` after them.
+    fn ended_assignments(
+        &mut self,
+        action: &ActionNode,
+    ) -> Expanding<(Vec<AssignmentNode>, usize)> {
+        let assignments = self.assignments(action)?;
+        let end = self.mark(Mark::Semicolon)?;
+        Ok((assignments, end))
+    }
+
     // A command, which may have a label.
     fn command(&mut self, label: Option<Label>) -> Expanding<CommandNode> {
         let at = self.at();
         self.pass();
-        let guard = self.expression()?;
-        let colon = self.mark(Mark::Colon)?;
-        let action = self.action()?;
-        let assignments = self.assignments(&action)?;
-        let end = self.mark(Mark::Semicolon)?;
+        let (guard, colon) = self.guard()?;
+        let (action, assignments, end) = self.effect()?;
         Ok(CommandNode {
             label,
             at,
@@ -191,12 +237,19 @@ impl<'a> ModelParser<'a> {
         let mark = self.scope.mark();
         self.repeats = self.repeats.saturating_add(1);
         let binder = self.binder(NESTING)?;
-        self.mark(Mark::OpenBrace)?;
-        let items = self.items(depth - 1)?;
-        self.mark(Mark::CloseBrace)?;
+        let Block { items, .. } = self.block(depth - 1)?;
         self.repeats = self.repeats.saturating_sub(1);
         self.scope.leave(mark);
         Ok(ItemNode::Repeat(binder, items))
+    }
+
+    // Items in braces.
+    #[cycle(items)]
+    fn block(&mut self, depth: u32) -> Expanding<Block> {
+        let open = self.mark(Mark::OpenBrace)?;
+        let items = self.items(depth)?;
+        let close = self.mark(Mark::CloseBrace)?;
+        Ok(Block { open, items, close })
     }
 
     // An item that is no definition.
@@ -243,9 +296,7 @@ impl<'a> ModelParser<'a> {
         self.declaration = Some(number);
         let first_constant = self.tables.constants;
         let ranges = self.ranges()?;
-        let open = self.mark(Mark::OpenBrace)?;
-        let items = self.items(REPEATS)?;
-        let close = self.mark(Mark::CloseBrace)?;
+        let Block { open, items, close } = self.block(REPEATS)?;
         self.declaration = None;
         self.scope.leave(mark);
         Ok(ProcessNode {

@@ -9,3 +9,6 @@ decreases-item l = l.depth * 4 + 1
 
 abbrev pub decreases-repeat : goal.decreases-repeat
 decreases-repeat l = l.depth * 4
+
+abbrev pub decreases-block : goal.decreases-block
+decreases-block l = l.depth * 4 + 3
