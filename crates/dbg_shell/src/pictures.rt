@@ -3,7 +3,7 @@
 use crate::usage::{flag, valued, with_file};
 use clap::builder::ValueParser;
 use clap::error::ErrorKind;
-use clap::{ArgMatches, Command, Error};
+use clap::{Arg, ArgMatches, Command, Error};
 use std::alloc::{AllocError, Global};
 use ui_diagram::{ALL_EVENTS, Moment, Picture, PictureForm, WIDTH};
 use ui_timeline::Theme;
@@ -15,61 +15,108 @@ static THEMES: [&str; 3] = ["auto", "light", "dark"];
 // How many events a drawing shows if `--last` does not say it: the time for more would exceed that for playing the session.
 const DRAWN_EVENTS: u32 = 2_000;
 
-/// The subcommand `draw`.
-pub(crate) fn draw<'a>(alloc: Global) -> Result<Command<'a>, AllocError> {
-    with_file(
+// An option of `draw`.
+#[derive(Clone, Copy)]
+enum DrawOption {
+    As,
+    At,
+    AtHalt,
+    Width,
+    Last,
+    Only,
+    Theme,
+}
+
+// In the order of the help.
+static OPTIONS: [DrawOption; 7] = [
+    DrawOption::As,
+    DrawOption::At,
+    DrawOption::AtHalt,
+    DrawOption::Width,
+    DrawOption::Last,
+    DrawOption::Only,
+    DrawOption::Theme,
+];
+
+// The option `--at`.
+fn line<'a>(alloc: Global) -> Result<Arg<'a>, AllocError> {
+    valued(
         alloc,
-        "draw",
-        "Plays a session, and draws its end, or another state; or, as html, a page to go through it",
-        "The program and the first lines; those of standard input follow",
-    )?
-    .arg(
-        valued(alloc, "as", "FORM", "The form of the picture")
-            .default_value("text")
-            .value_parser(ValueParser::Names(&PICTURES)),
-    )?
-    .arg(
-        valued(
-            alloc,
-            "at",
-            "LINE",
-            "Draws the state after this line of the input, from 1, in place of the end",
-        )
-        .value_parser(clap::value_parser!(u32).range(1..))
-        .conflicts_with("at-halt")?,
-    )?
-    .arg(flag(
-        alloc,
-        "at-halt",
-        "Draws the state at the first halt, in place of the end",
-    ))?
-    .arg(valued(
+        "at",
+        "LINE",
+        "Draws the state after this line of the input, from 1, in place of the end",
+    )
+    .value_parser(clap::value_parser!(u32).range(1..))
+    .conflicts_with("at-halt")
+}
+
+// The option `--as`.
+fn form<'a>(alloc: Global) -> Arg<'a> {
+    valued(alloc, "as", "FORM", "The form of the picture")
+        .default_value("text")
+        .value_parser(ValueParser::Names(&PICTURES))
+}
+
+// The option `--width`.
+fn width<'a>(alloc: Global) -> Arg<'a> {
+    valued(
         alloc,
         "width",
         "N",
         "How many characters wide a text picture is at most, from 20 to 1000, if not 120",
     )
-    .value_parser(clap::value_parser!(u32).range(20..=1_000)))?
-    .arg(valued(
+    .value_parser(clap::value_parser!(u32).range(20..=1_000))
+}
+
+// The option `--last`.
+fn last<'a>(alloc: Global) -> Arg<'a> {
+    valued(
         alloc,
         "last",
         "N",
         "Draws at most the last N events; for an svg picture 2000 if not given",
     )
-    .value_parser(clap::value_parser!(u32).range(1..)))?
-    .arg(valued(
-        alloc,
-        "only",
-        "P,Q",
-        "Draws only these processes, their names separated by commas",
-    ))?
-    .arg(valued(
+    .value_parser(clap::value_parser!(u32).range(1..))
+}
+
+// The option `--theme`.
+fn theme<'a>(alloc: Global) -> Arg<'a> {
+    valued(
         alloc,
         "theme",
         "COLOURS",
         "The colours of an svg picture: those that a reader prefers, light ones or dark ones",
     )
-    .value_parser(ValueParser::Names(&THEMES)))
+    .value_parser(ValueParser::Names(&THEMES))
+}
+
+// The option, as it is described in the help.
+fn described<'a>(alloc: Global, option: DrawOption) -> Result<Arg<'a>, AllocError> {
+    let halt = "Draws the state at the first halt, in place of the end";
+    let only = "Draws only these processes, their names separated by commas";
+    match option {
+        DrawOption::As => Ok(form(alloc)),
+        DrawOption::At => line(alloc),
+        DrawOption::AtHalt => Ok(flag(alloc, "at-halt", halt)),
+        DrawOption::Width => Ok(width(alloc)),
+        DrawOption::Last => Ok(last(alloc)),
+        DrawOption::Only => Ok(valued(alloc, "only", "P,Q", only)),
+        DrawOption::Theme => Ok(theme(alloc)),
+    }
+}
+
+/// The subcommand `draw`.
+pub(crate) fn draw<'a>(alloc: Global) -> Result<Command<'a>, AllocError> {
+    let mut command = with_file(
+        alloc,
+        "draw",
+        "Plays a session, and draws its end, or another state; or, as html, a page to go through it",
+        "The program and the first lines; those of standard input follow",
+    )?;
+    for option in &OPTIONS {
+        command = command.arg(described(alloc, *option)?)?;
+    }
+    Ok(command)
 }
 
 // The form of this name.

@@ -241,19 +241,53 @@ fn replay<'a>(alloc: Global) -> Result<Command<'a>, AllocError> {
         ))
 }
 
+#[derive(Clone, Copy)]
+enum Subcommand {
+    Talk,
+    Expand,
+    Run,
+    Check,
+    Crew,
+    Test,
+    Replay,
+    Draw,
+}
+
+// In the order of the help.
+static SUBCOMMANDS: [Subcommand; 8] = [
+    Subcommand::Talk,
+    Subcommand::Expand,
+    Subcommand::Run,
+    Subcommand::Check,
+    Subcommand::Crew,
+    Subcommand::Test,
+    Subcommand::Replay,
+    Subcommand::Draw,
+];
+
+// The subcommand, with its arguments.
+fn described<'a>(alloc: Global, subcommand: Subcommand) -> Result<Command<'a>, AllocError> {
+    match subcommand {
+        Subcommand::Talk => talk(alloc),
+        Subcommand::Expand => expand(alloc),
+        Subcommand::Run => run(alloc),
+        Subcommand::Check => check(alloc),
+        Subcommand::Crew => crew(alloc),
+        Subcommand::Test => test(alloc),
+        Subcommand::Replay => replay(alloc),
+        Subcommand::Draw => draw(alloc),
+    }
+}
+
 fn command<'a>(alloc: Global) -> Result<Command<'a>, AllocError> {
-    Command::new(alloc, "rdbg")
+    let mut command = Command::new(alloc, "rdbg")
         .about(ABOUT)
         .after_help(GUIDE)
-        .subcommand_required(true)
-        .subcommand(talk(alloc)?)?
-        .subcommand(expand(alloc)?)?
-        .subcommand(run(alloc)?)?
-        .subcommand(check(alloc)?)?
-        .subcommand(crew(alloc)?)?
-        .subcommand(test(alloc)?)?
-        .subcommand(replay(alloc)?)?
-        .subcommand(draw(alloc)?)
+        .subcommand_required(true);
+    for subcommand in &SUBCOMMANDS {
+        command = command.subcommand(described(alloc, *subcommand)?)?;
+    }
+    Ok(command)
 }
 
 // The work of the subcommand of this name.
