@@ -1,23 +1,9 @@
-//! The tests of the engine, by the crate that they test: what neither contracts say nor sessions reach.
+//! The tests of the engine, and of a desk and its crews: what neither contracts say nor sessions reach, through public calls.
 #![tactic(auto)]
 
 #[cfg(test)]
-mod board;
+mod crew;
 #[cfg(test)]
-mod copies;
-#[cfg(test)]
-mod cuts;
-#[cfg(test)]
-mod eliminations;
+mod engine;
 #[cfg(test)]
 mod expecting;
-#[cfg(test)]
-mod gate;
-#[cfg(test)]
-mod journals;
-#[cfg(test)]
-mod scans;
-#[cfg(test)]
-mod truths;
-#[cfg(test)]
-mod worlds;

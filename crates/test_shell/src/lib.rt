@@ -1,7 +1,9 @@
-//! The tests of `dbg_shell`: what contracts do not say, through public calls.
+//! The tests of the shell, and of the texts that it reads: what no contract says and no command of rdbg shows, through public calls.
 #![tactic(auto)]
 
 #[cfg(test)]
 mod expecting;
 #[cfg(test)]
 mod shell;
+#[cfg(test)]
+mod texts;
