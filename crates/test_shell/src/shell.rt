@@ -6,7 +6,6 @@ mod crews;
 mod faults;
 mod jobs;
 mod limits;
-mod replies;
 mod sessions;
 
 use crate::expecting::{expect_same, expect_true};

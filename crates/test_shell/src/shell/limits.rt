@@ -1,4 +1,4 @@
-//! Orders of the same events, refused programs, and lines, inputs and sessions at their limits.
+//! Orders of the same events, and lines, inputs and sessions at their limits.
 
 use super::sessions::COUNTER;
 use super::{add, expect_checked, expect_long, expect_served, joined, repeat, served};
@@ -68,57 +68,6 @@ fn concurrent_work_is_the_same_in_either_order(rt: HostRuntime) {
     }
 }
 
-// Each text is followed by a line end and a line `%%`.
-const REFUSED: [(&str, &str); 12] = [
-    ("process A {}", "program refused 1 at 8\n"),
-    ("process a { ! }", "program refused 1 at 12\n"),
-    (
-        "process a { var x = 9223372036854775808; }",
-        "program refused 2 at 20\n",
-    ),
-    // 33 letters
-    (
-        "process aaaaaaaaaaaaaaaaaaaaaaaaaaaaaaaaa",
-        "program refused 2 at 8\n",
-    ),
-    ("process a { when true : }", "program refused 3 at 24\n"),
-    // 11 bytes and the line end
-    ("process a {", "program refused 3 at 12\n"),
-    (
-        "process a { var x = 1; var x = 2; when y : x := 1; }",
-        "program refused 4 at 27\n",
-    ),
-    (
-        "process a { when x : x := 1; }",
-        "program refused 5 at 17\n",
-    ),
-    // 17 bytes and 32 parentheses before the 33rd
-    (
-        "process a { when (((((((((((((((((((((((((((((((((",
-        "program refused 7 at 49\n",
-    ),
-    (
-        "process a { var x = 0; when true : send a x; }",
-        "program refused 8 at 40\n",
-    ),
-    (
-        "process a { when (sent(a) = 0) : send b 1; }",
-        "program refused 8 at 23\n",
-    ),
-    (
-        "process a { var x = 0; when true : x := 1, x := 2; }",
-        "program refused 9 at 43\n",
-    ),
-];
-
-#[test]
-fn a_refused_program_ends_it(rt: HostRuntime) {
-    for (text, want) in &REFUSED {
-        let input = joined(&rt, rt.alloc(), text, "\n%%\n1 next a\n");
-        expect_served(&rt, rt.alloc(), want, input.as_slice(), want);
-    }
-}
-
 #[test]
 fn programs_are_checked(rt: HostRuntime) {
     expect_checked(
@@ -128,10 +77,6 @@ fn programs_are_checked(rt: HostRuntime) {
         "ok 2 processes 3 commands\n",
     );
     expect_checked(&rt, rt.alloc(), b"%%\n", "program refused 3 at 0\n");
-    for (text, want) in &REFUSED {
-        let input = joined(&rt, rt.alloc(), text, "\n%%\n");
-        expect_checked(&rt, rt.alloc(), input.as_slice(), want);
-    }
 }
 
 // Appends blanks, the text and a line end, so many bytes in total.
