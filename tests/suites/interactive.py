@@ -17,6 +17,8 @@ MODEL = "process p[i: 1..2] { var x = 0; now: when x < 2 : x := x + 1; later: wh
 LINES = ["1 next a", "1 vars a", "1 next a", "1 next a", "1 undo a", "1 nonsense"]
 REPLIES = ["ok a 0", "vars a x=1", "ok a 0", "no 24", "ok a 0", "no 22"]
 PROMPT = "> "
+WRONG = ["process a { }", "oops", "%%"]
+AGAIN = "Type the program again, or Ctrl-D to end.\n"
 START = TOP / "dist" / "start"
 
 
@@ -99,6 +101,40 @@ def prompt_problem(suite, begin):
     program, end, _ = PROGRAM.splitlines(keepends=True) + [""]
     wanted = f"program> {program}program> {end}> next a\nok a 0\n"
     return "" if (status, of_session(shown)) == (0, wanted) else f"status {status}, and the terminal shows {shown!r}"
+
+
+def again_problem(suite, begin):
+    """Types a program that is refused, and then one that is not, and a line of a session."""
+    terminal = begin(suite)
+    shown = ""
+    for line in [*WRONG, *PROGRAM.splitlines(), "next a"]:
+        shown += terminal.until(PROMPT)
+        terminal.type(f"{line}\n")
+    shown += terminal.until("ok a 0\n")
+    terminal.type("quit\n")
+    _, status = terminal.ended()
+    program, end = PROGRAM.splitlines(keepends=True)
+    wanted = f"{AGAIN}program> {program}program> {end}> next a\nok a 0\n"
+    is_so = status == 0 and shown.count("program refused 3 at 14\n") == 1 and shown.endswith(wanted)
+    return "" if is_so else f"status {status}, and the terminal shows {shown!r}"
+
+
+def given_up_problem(suite, begin):
+    """Types a program that is refused, and then no other one."""
+    terminal = begin(suite)
+    for line in WRONG:
+        terminal.until(PROMPT)
+        terminal.type(f"{line}\n")
+    terminal.until(f"{AGAIN}program> ")
+    terminal.type("\x04")
+    shown, status = terminal.ended()
+    return "" if (status, of_session(shown)) == (3, "\n") else f"status {status}, and the terminal shows {shown!r}"
+
+
+def refused_file_problem(suite, file):
+    """Begins a session with a file whose program is refused. Nobody has to type another one."""
+    shown, status = direct(suite, file).ended()
+    return "" if status == 3 and PROMPT not in shown else f"status {status}, and the terminal shows {shown!r}"
 
 
 def program_file_problem(suite, file):
@@ -381,18 +417,22 @@ def run(suite):
     for words in (["run"], ["talk"]):
         suite.attempt(f"{words[0]}, line by line through a pipe", pipe_problem, suite, words)
     with temporary_folder() as room:
-        session, program, counter, model = (room / f"{name}.rdbg" for name in ("session", "program", "counter", "model"))
+        session, program, counter, model, wrong = (room / f"{name}.rdbg" for name in ("session", "program", "counter", "model", "wrong"))
         session.write_text(PROGRAM)
         model.write_text(MODEL)
+        wrong.write_text("\n".join(WRONG) + "\n")
         program.write_text(PROGRAM.partition("%%")[0])
         counter.write_text(PROGRAM.replace("process a", "process counter"))
         for begin, by in ((direct, ""), (launched, ", by dist/start")):
             suite.attempt(f"talk, typed at a terminal{by}", terminal_problem, suite, begin, session)
             suite.attempt(f"a program that is typed{by}", prompt_problem, suite, begin)
+            suite.attempt(f"a program that is typed, refused and typed again{by}", again_problem, suite, begin)
+            suite.attempt(f"a program that is typed and refused, and then Ctrl-D{by}", given_up_problem, suite, begin)
             suite.attempt(f"an escape sequence, at a terminal{by}", control_problem, suite, begin, session)
             suite.attempt(f"colours at a terminal{by}", color_problem, suite, begin, session, True, {"NO_COLOR": ""})
             suite.attempt(f"no colours with NO_COLOR{by}", color_problem, suite, begin, session, False, {})
         suite.attempt("a file without a line %%, at a terminal", program_file_problem, suite, program)
+        suite.attempt("a file that is refused, at a terminal", refused_file_problem, suite, wrong)
         suite.attempt("a line that asks for several events, at a terminal", repetition_problem, suite, session)
         suite.attempt("a line with `for`, at a terminal", members_problem, suite, model)
         suite.attempt("a picture in a session, as wide as COLUMNS says", width_problem, suite, 60, direct, {"COLUMNS": "60"})

@@ -6,6 +6,7 @@ mod paint;
 mod replaying;
 mod serving;
 mod sessions;
+mod talking;
 mod testing;
 #[cfg(test)]
 mod tests;
@@ -24,12 +25,13 @@ use std::process::ExitCode;
 use std::sync::Wait;
 use std::thread::Threads;
 use std::{env, io};
+use talking::talk_again;
 use testing::test;
 use typing::{Device, FileInput, Typing, open};
 use ui_diagram::{PictureForm, WIDTH};
 use ui_expect::{ReplayNames, fill_session};
 use ui_picture::{draw, draw_status};
-use ui_repl::{expand, explain, name_commands, talk, tell_notation};
+use ui_repl::{expand, explain, name_commands, tell_notation};
 use words::{WordsFault, words};
 
 static VERSION: &str = "rdbg 1.0";
@@ -86,7 +88,10 @@ fn do_work<R: Threads + Wait + Sync, W: Sink, E: Sink>(
         Work::Explain => status(&explain(alloc, &mut reader, writer)),
         Work::Expand => status(&expand(alloc, &mut reader, writer, errors)),
         Work::NameCommands => status(&name_commands(alloc, &mut reader, writer, errors)),
-        Work::Talk(_) => status(&talk(alloc, picture_width(rt), &mut reader, writer)),
+        Work::Talk(_) => {
+            let width = picture_width(rt);
+            status(&talk_again(alloc, width, reader.into_inner(), writer))
+        }
         Work::Draw(picture) => { draw_status(&draw(alloc, picture, &mut reader, writer, errors)) }
     }
 }

@@ -54,6 +54,10 @@ pub(crate) struct Typing<'a> {
     end: ProgramEnd,
     // Whether the prompt for the next line was written.
     is_begun: bool,
+    // The first byte of a line, if it was read ahead of the others.
+    ahead: Option<u8>,
+    // Whether the next byte belongs to a line that was asked for.
+    is_in_line: bool,
 }
 
 impl<'a> Typing<'a> {
@@ -65,7 +69,25 @@ impl<'a> Typing<'a> {
             prompts,
             end: ProgramEnd::new(is_program_read),
             is_begun: false,
+            ahead: None,
+            is_in_line: false,
         }
+    }
+
+    // Asks for a program once more, after one that was refused. The answer is whether a person types one.
+    fn begins_again(&mut self) -> bool {
+        if !self.is_typed() {
+            return false;
+        }
+        self.prompt("Type the program again, or Ctrl-D to end.\n");
+        self.end = ProgramEnd::new(false);
+        let mut first = [0];
+        self.ahead = match self.read(&mut first) {
+            Ok(1) => Some(first[0]),
+            _ => None,
+        };
+        self.is_in_line = !matches!(self.ahead, None | Some(b'\n'));
+        self.ahead.is_some()
     }
 
     // Writes a prompt, or the line end after the last one. What cannot be written is left out.
@@ -79,11 +101,19 @@ impl<'a> Typing<'a> {
 impl Read for Typing<'_> {
     fn read(&mut self, bytes: &mut [u8]) -> io::Result<usize> {
         self.is_begun = true;
-        self.prompt(if self.end.is_passed {
-            "> "
-        } else {
-            "program> "
-        });
+        if let (Some(first), Some(byte)) = (bytes.first_mut(), self.ahead) {
+            *first = byte;
+            self.ahead = None;
+            return Ok(1);
+        }
+        if !self.is_in_line {
+            self.prompt(if self.end.is_passed {
+                "> "
+            } else {
+                "program> "
+            });
+        }
+        self.is_in_line = false;
         let count = self.input.read(bytes)?;
         if count == 0 {
             self.prompt("\n");
@@ -138,6 +168,17 @@ pub(crate) enum Device<'a> {
     Input(Typing<'a>),
     /// A file, and then standard input.
     Both(Chain<ClosedLines<FileInput>, Typing<'a>>),
+}
+
+impl Device<'_> {
+    /// Asks for a program once more, after one that was refused. The answer is whether a person types one: the program of a file is not
+    /// typed.
+    pub(crate) fn begins_again(&mut self) -> bool {
+        match self {
+            Device::Input(input) => input.begins_again(),
+            Device::File(_) | Device::Both(_) => false,
+        }
+    }
 }
 
 impl Read for Device<'_> {
