@@ -59,9 +59,9 @@ IsGap gap = (gap ≡ []) ⊎ (gap ≡ as_line [])
 abbrev pub IsEcho : List ℕ → List ℕ → Type 0
 IsEcho line echo = (echo ≡ []) ⊎ ((gap : List ℕ) × IsGap gap × (echo ≡ gap ++ as_line line))
 
--- nothing, or the line that was given; or, if memory ran out for it, a line
+-- nothing, or the line that was given, without a carriage return at its end; or, if memory ran out for it, a line
 abbrev pub IsEchoOf : Given → List ℕ → Type 0
-IsEchoOf (Some line) echo = IsEcho line echo
+IsEchoOf (Some line) echo = IsEcho (without_return line) echo
 IsEchoOf None echo = (line : List ℕ) × IsEcho line echo
 
 -- the line ends the session: nothing but a remark is after its first word

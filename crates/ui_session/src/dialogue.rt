@@ -11,6 +11,7 @@ use dbg_base::{Call, Said};
 use dbg_command::SessionView;
 use proc_tree::Program;
 use shell_io::{GivenLine, Noted, Sink};
+use shell_parse::without_return;
 use shell_print::{ServeFault, print_refusal, print_reply};
 use shell_serve::{LineReply, LineSort, Observer};
 use std::alloc::{AllocError, Global};
@@ -139,8 +140,8 @@ impl<T: Explainer<N>, N> Observer<N> for Dialogue<T> {
         let echo = heard.unwrap_or(Echo::Nothing);
         let (echoes, gap) = (echo != Echo::Nothing, gap_before(echo));
         match line.played {
-            Some(played) => write_echo(echoes, gap, played, writer),
-            None => write_echo(echoes, gap, line.written, writer),
+            Some(played) => write_echo(echoes, gap, without_return(played), writer),
+            None => write_echo(echoes, gap, without_return(line.written), writer),
         }
     }
 
