@@ -26,7 +26,7 @@ PROVED = TOP / "docs/proved.md"
 CONDITIONS = "\n| Crate | Calls |\n|---|---|\n"  # the begin of the table of the calls that have a condition on their caller
 SOURCE = re.compile(r"`((?:crates/)?[a-z_]+/(?:src|specs|proofs)/[\w/.]+\.(?:rt|antt))`")
 # The list of the refusals in the help, and copies of it. Each is a file, the text before the list, and what an entry looks like.
-HELP_REFUSALS = ("crates/dbg_shell/src/usage.rt", "\nRefusals:", r"^ +(\d+) +(.+)$")
+HELP_REFUSALS = ("crates/dbg_shell/src/subcommands.rt", "\nRefusals:", r"^ +(\d+) +(.+)$")
 OTHER_REFUSALS = [
     ("crates/ui_text/src/numbers.rt", "match number", r'^ +(\d+) =>\s+"(.+)",$'),
     ("dist/rdbg.1", "\n.Sh REFUSALS", r"^\.It (\d+)\n((?:[^.\n].*\n)+)"),

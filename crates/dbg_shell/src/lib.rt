@@ -10,6 +10,7 @@ mod crewing;
 mod jobs;
 mod orders;
 mod pictures;
+mod subcommands;
 mod usage;
 
 pub use checking::check;

@@ -1,6 +1,6 @@
 //! The arguments of `draw`.
 
-use crate::usage::{flag, valued, with_file};
+use crate::subcommands::{flag, valued, with_file};
 use clap::builder::ValueParser;
 use clap::error::ErrorKind;
 use clap::{Arg, ArgMatches, Command, Error};
