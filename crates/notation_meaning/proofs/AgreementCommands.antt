@@ -6,7 +6,7 @@ use Rattle.proc_tree.specs.declared.process.Assignment.{Assignment}
 use Rattle.proc_tree.specs.ProcessTrees.{assignment_trees}
 use Rattle.notation_tree.specs.declared.syntax.AssignmentNode.{AssignmentNode}
 use Rattle.notation_meaning.specs.ModelScopes.{Scope}
-use Rattle.notation_meaning.specs.PlainExpressions.{Setting, Names, Stands}
+use Rattle.notation_meaning.specs.PlainExpressions.{Setting, Names, Means}
 use Rattle.notation_meaning.specs.ModelPrograms.{AssignmentsOf, no_assignments, more_assignments}
 
 pub assignments_end : (S : Setting) (s : Scope) (nodes : List AssignmentNode) (found : List Assignment) → length nodes ≡ 0
@@ -15,6 +15,6 @@ assignments_end S s nodes found e f = rw (nil_from_length nodes e, nil_from_leng
 
 pub assignments_step : (S : Setting) (s : Scope) (nodes others : List AssignmentNode) (found rest : List Assignment) (node : AssignmentNode)
     (first : Assignment) → nodes ≡ node ∷ others → found ≡ first ∷ rest
-    → Names S.context s node.target S.variables first.variable → Stands S s node.value (tree_of first.value)
+    → Names S.context s node.target S.variables first.variable → Means S s node.value (tree_of first.value)
     → AssignmentsOf S s others (assignment_trees rest) → AssignmentsOf S s nodes (assignment_trees found)
-assignments_step S s nodes others found rest node first e f names stands rule = rw (e, f) (more_assignments names stands rule)
+assignments_step S s nodes others found rest node first e f names means rule = rw (e, f) (more_assignments names means rule)

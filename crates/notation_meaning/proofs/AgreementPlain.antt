@@ -1,5 +1,5 @@
 -- The rules of plain expressions, where a list is known by its length, or by an element and the rest.
-use Rattle.std.proofs.Common.{◌≡◌, ℕ, ◌-◌, ◌/◌, ◌≤◌, ℤ, pos, ◌-ℤ◌, ◌<ℤ◌, Bool, List, [], ◌∷◌, ◌++◌, length, take, drop, refl, sym, ◌∙◌, ap, subst, Some}
+use Rattle.std.proofs.Common.{◌≡◌, ℕ, ◌-◌, ◌/◌, ◌≤◌, ℤ, pos, ◌-ℤ◌, ◌<ℤ◌, Bool, List, [], ◌∷◌, ◌++◌, length, take, drop, refl, sym, subst, Some}
 use Rattle.std.specs.Prelude.{slice_get}
 use Rattle.std.proofs.lemmas.List.{nil_from_length}
 use Rattle.dbg_base.specs.declared.expr.Operator.{Operator}
@@ -13,7 +13,7 @@ use Rattle.notation_tree.specs.declared.syntax.Binder.{out-Binder}
 use Rattle.notation_tree.specs.declared.syntax.Each.{Each, out-Each}
 use Rattle.notation_meaning.specs.ModelScopes.{Context, Scope, Member}
 use Rattle.notation_meaning.specs.ModelValues.{HasValue}
-use Rattle.notation_meaning.specs.PlainExpressions.{Setting, IsWritten, word, indexed, HasName, no_indices, more_indices, Names, Stands, ChainStands}
+use Rattle.notation_meaning.specs.PlainExpressions.{Setting, IsWritten, word, indexed, HasName, no_indices, more_indices, Names, Means, ChainMeans}
 use Rattle.notation_meaning.specs.PlainExpressions.{first_operand, last_operand, Joined, no_members, one_member, halves, AtLeast, either}
 use Rattle.notation_meaning.specs.AgreementViews.{IsNamed}
 
@@ -38,12 +38,12 @@ module _ (K : Context) (s : Scope) where
   names_element {reference} {names} {number} {whole} h there = record { name = whole; named = h; there = there }
 
 module _ (S : Setting) (s : Scope) where
-  pub chain_end : {e : Expression} {t : Tree} (links : List Link) → length links ≡ 0 → Stands S s e t → ChainStands S s e links t
+  pub chain_end : {e : Expression} {t : Tree} (links : List Link) → length links ≡ 0 → Means S s e t → ChainMeans S s e links t
   chain_end links e h = rw (nil_from_length links e) (first_operand h)
 
-  pub chain_goes_on : {e : Expression} {t u whole : Tree} {op : Operator} (link : Link) {before links : List Link} → ChainStands S s e before t
-      → Stands S s (out-Link link).operand u → links ≡ before ++ (link ∷ []) → (out-Link link).operator ≡ op → whole ≡ Binary op t u
-      → ChainStands S s e links whole
+  pub chain_goes_on : {e : Expression} {t u whole : Tree} {op : Operator} (link : Link) {before links : List Link} → ChainMeans S s e before t
+      → Means S s (out-Link link).operand u → links ≡ before ++ (link ∷ []) → (out-Link link).operator ≡ op → whole ≡ Binary op t u
+      → ChainMeans S s e links whole
   chain_goes_on link h one l o w = rw (l, w, sym o) (last_operand link h one)
 
   pub joined_end : {each : Each} {operator : Operator} {nothing : Value} {t : Tree} (members : List ℤ) → length members ≡ 0
@@ -51,7 +51,7 @@ module _ (S : Setting) (s : Scope) where
   joined_end members e h = rw (nil_from_length members e) (no_members h)
 
   pub joined_one : {each : Each} {operator : Operator} {nothing : Value} {t : Tree} {m : ℤ} {members : List ℤ} (others : List ℤ)
-      → Stands S (Member (out-Binder (out-Each each).binder).member m s) (out-Each each).body t → members ≡ m ∷ others → length others ≡ 0
+      → Means S (Member (out-Binder (out-Each each).binder).member m s) (out-Each each).body t → members ≡ m ∷ others → length others ≡ 0
       → Joined S s each operator nothing members t
   joined_one others h e l = rw (e, nil_from_length others l) (one_member h)
 
@@ -63,7 +63,7 @@ module _ (S : Setting) (s : Scope) where
       rw (w, sym o) (halves two (subst (λ z. Joined S s each operator nothing z t) p h) (subst (λ z. Joined S s each operator nothing z u) r k))
 
   pub either_way : {each : Each} {k below m : ℤ} {members others : List ℤ} {t r u whole : Tree} → AtLeast S s each below others r
-      → AtLeast S s each k others u → Stands S (Member (out-Binder (out-Each each).binder).member m s) (out-Each each).body t
+      → AtLeast S s each k others u → Means S (Member (out-Binder (out-Each each).binder).member m s) (out-Each each).body t
       → members ≡ m ∷ others → below ≡ k -ℤ pos 1 → pos 1 <ℤ k → k <ℤ pos (length members) → whole ≡ Binary Or (Binary And t r) u
       → AtLeast S s each k members whole
   either_way {each} {k} {below} {m} {members} {others} {t} {r} {u} {whole} with_it without one e b more fewer w =

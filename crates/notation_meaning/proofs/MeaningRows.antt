@@ -23,7 +23,7 @@ use Rattle.notation_meaning.specs.ModelScopes.{Context, Scope, Top, Member, Call
 use Rattle.notation_meaning.specs.ModelValues as v
 use Rattle.notation_meaning.specs.ModelValues.{HasValue, LinksGive, HasMembers, MembersFrom, ConditionIs, SumIs, EnoughHold}
 use Rattle.notation_meaning.specs.PlainExpressions as p
-use Rattle.notation_meaning.specs.PlainExpressions.{Setting, IsWritten, HasName, Names, Stands, ChainStands, Joined, AtLeast}
+use Rattle.notation_meaning.specs.PlainExpressions.{Setting, IsWritten, HasName, Names, Means, ChainMeans, Joined, AtLeast}
 use Rattle.notation_meaning.specs.ModelFamilies as f
 use Rattle.notation_meaning.specs.ModelFamilies.{Place, place_in, PlacesOf, IsIndexed}
 use Rattle.notation_meaning.specs.ModelPrograms as m
@@ -134,7 +134,7 @@ module _ (S : Setting) (s : Scope) (one two three : Expression) (is_one : out-Ex
     (is_two : out-Expression two ≡ form.Number 0 (pos 2)) (is_three : out-Expression three ≡ form.Number 0 (pos 3)) where
   -- `x[2]` is the variable `x_2`
   name_row : (e : Expression) (r : Reference) → out-Expression e ≡ form.Name r → (out-Reference r).name ≡ codes "x"
-      → (out-Reference r).indices.items ≡ two ∷ [] → S.variables ≡ codes "x_1" ∷ codes "x_2" ∷ [] → Stands S s e (tree.Variable 1)
+      → (out-Reference r).indices.items ≡ two ∷ [] → S.variables ≡ codes "x_1" ∷ codes "x_2" ∷ [] → Means S s e (tree.Variable 1)
   unfolding digits
   name_row e r is name indices variables =
       let named : HasName S.context s (codes "x") (two ∷ []) (codes "x_2") = p.more_indices (v.simple (v.number is_two)) p.no_indices in
@@ -142,14 +142,14 @@ module _ (S : Setting) (s : Scope) (one two three : Expression) (is_one : out-Ex
 
   -- `sent(q)` counts the messages to the process `q`
   count_row : (e : Expression) (r : Reference) → out-Expression e ≡ form.Count 0 direction.Sent r → (out-Reference r).name ≡ codes "q"
-      → (out-Reference r).indices.items ≡ [] → S.processes ≡ codes "p" ∷ codes "q" ∷ [] → Stands S s e (tree.Count direction.Sent 1)
+      → (out-Reference r).indices.items ≡ [] → S.processes ≡ codes "p" ∷ codes "q" ∷ [] → Means S s e (tree.Count direction.Sent 1)
   count_row e r is name indices processes =
       let named : HasName S.context s (codes "q") [] (codes "q") = p.no_indices in
       p.count r is (record { name = codes "q"; named = rw (name, indices) named; there = rw processes refl })
 
   -- operators of one precedence join from the left
   chain_row : (a b : Link) → (out-Link a).operand ≡ two → (out-Link b).operand ≡ three
-      → ChainStands S s one (a ∷ b ∷ [])
+      → ChainMeans S s one (a ∷ b ∷ [])
       (tree.Binary (out-Link b).operator (tree.Binary (out-Link a).operator (tree.Number (pos 1)) (tree.Number (pos 2))) (tree.Number (pos 3)))
   chain_row a b ao bo =
       p.last_operand {links = a ∷ []} b
@@ -158,11 +158,11 @@ module _ (S : Setting) (s : Scope) (one two three : Expression) (is_one : out-Ex
 
 -- forms over the members 1, 2, 3 and so on, for which the expression is t1, t2, t3 and so on
 module _ (S : Setting) (s : Scope) (each : Each) (t1 t2 t3 t4 t5 : tree.Tree)
-    (h1 : Stands S (Member (out-Binder (out-Each each).binder).member (pos 1) s) (out-Each each).body t1)
-    (h2 : Stands S (Member (out-Binder (out-Each each).binder).member (pos 2) s) (out-Each each).body t2)
-    (h3 : Stands S (Member (out-Binder (out-Each each).binder).member (pos 3) s) (out-Each each).body t3)
-    (h4 : Stands S (Member (out-Binder (out-Each each).binder).member (pos 4) s) (out-Each each).body t4)
-    (h5 : Stands S (Member (out-Binder (out-Each each).binder).member (pos 5) s) (out-Each each).body t5) where
+    (h1 : Means S (Member (out-Binder (out-Each each).binder).member (pos 1) s) (out-Each each).body t1)
+    (h2 : Means S (Member (out-Binder (out-Each each).binder).member (pos 2) s) (out-Each each).body t2)
+    (h3 : Means S (Member (out-Binder (out-Each each).binder).member (pos 3) s) (out-Each each).body t3)
+    (h4 : Means S (Member (out-Binder (out-Each each).binder).member (pos 4) s) (out-Each each).body t4)
+    (h5 : Means S (Member (out-Binder (out-Each each).binder).member (pos 5) s) (out-Each each).body t5) where
   all_of_none_row : Joined S s each operator.And (Tru true) [] (tree.Truth true)
   all_of_none_row = p.no_members p.word
 

@@ -21,7 +21,7 @@ use Rattle.notation_tree.specs.declared.syntax.DeclarationNode.TheVariants as de
 use Rattle.notation_meaning.specs.ModelScopes.{Constants, Context, Scope, Top, Member}
 use Rattle.notation_meaning.specs.ModelValues.{HasValue, HasMembers}
 use Rattle.notation_meaning.specs.ModelFamilies.{Place, place_in, PlacesOf, IsIndexed}
-use Rattle.notation_meaning.specs.PlainExpressions.{Setting, Names, Stands}
+use Rattle.notation_meaning.specs.PlainExpressions.{Setting, Names, Means}
 
 -- a variable of the plain program: its name and its initial value
 abbrev pub Variable : Type 0
@@ -63,20 +63,20 @@ pub data VariablesOf (K : Context) (node : VariableNode) : List Place → List V
 pub data AssignmentsOf (S : Setting) (s : Scope) : List AssignmentNode → List (ℕ × Tree) → Type 0 where
   no_assignments : AssignmentsOf S s [] []
   more_assignments : {node : AssignmentNode} {nodes : List AssignmentNode} {i : ℕ} {t : Tree} {assignments : List (ℕ × Tree)}
-      → Names S.context s node.target S.variables i → Stands S s node.value t → AssignmentsOf S s nodes assignments
+      → Names S.context s node.target S.variables i → Means S s node.value t → AssignmentsOf S s nodes assignments
       → AssignmentsOf S s (node ∷ nodes) ((i, t) ∷ assignments)
 
 -- what a command does besides its assignments
 pub data ActionOf (S : Setting) (s : Scope) : ActionNode → tree.Action → Type 0 where
   local : ActionOf S s action.Local tree.Local
-  send : {at p : ℕ} {target : _} {e : Expression} {t : Tree} → Names S.context s target S.processes p → Stands S s e t
+  send : {at p : ℕ} {target : _} {e : Expression} {t : Tree} → Names S.context s target S.processes p → Means S s e t
       → ActionOf S s (action.Send at target e) (tree.Sends p t)
   receive : {at p i : ℕ} {source variable : _} → Names S.context s source S.processes p → Names S.context s variable S.variables i
       → ActionOf S s (action.Receive at source variable) (tree.Receives p i)
 
 -- a command of the plain program
 pub record CommandOf (S : Setting) (s : Scope) (node : CommandNode) (command : tree.Command) : Type 0 where
-  pub guard : Stands S s node.guard command.guard
+  pub guard : Means S s node.guard command.guard
   pub action : ActionOf S s node.action command.action
   pub assignments : AssignmentsOf S s node.assignments.items command.assignments
 

@@ -48,50 +48,50 @@ pub record Names (K : Context) (s : Scope) (reference : Reference) (names : List
 
 mutual
   -- the expression means this plain expression in this scope
-  pub data Stands (S : Setting) : Scope → Expression → Tree → Type 0 where
-    simple : {s : Scope} {e : Expression} {v : Value} {t : Tree} → IsSimple S.context s e v → IsWritten v t → Stands S s e t
+  pub data Means (S : Setting) : Scope → Expression → Tree → Type 0 where
+    simple : {s : Scope} {e : Expression} {v : Value} {t : Tree} → IsSimple S.context s e v → IsWritten v t → Means S s e t
     parameter : {s : Scope} {e : Expression} {at n : ℕ} {t : Tree} (m : Meant) → out-Expression e ≡ form.Parameter at n
-        → argument_in s n ≡ Some m → Stands S m.scope m.expression t → Stands S s e t
+        → argument_in s n ≡ Some m → Means S m.scope m.expression t → Means S s e t
     name : {s : Scope} {e : Expression} {i : ℕ} (reference : Reference) → out-Expression e ≡ form.Name reference
-        → Names S.context s reference S.variables i → Stands S s e (Variable i)
+        → Names S.context s reference S.variables i → Means S s e (Variable i)
     count : {s : Scope} {e : Expression} {at p : ℕ} {direction : Direction} (other : Reference)
-        → out-Expression e ≡ form.Count at direction other → Names S.context s other S.processes p → Stands S s e (Count direction p)
+        → out-Expression e ≡ form.Count at direction other → Names S.context s other S.processes p → Means S s e (Count direction p)
     call : {s : Scope} {e : Expression} {at n : ℕ} {t : Tree} (d : Definition) (arguments : _)
         → out-Expression e ≡ form.Call at n arguments → slice_get S.context.definitions n ≡ Some d → length arguments.items ≡ d.count
-        → Stands S (Call d.first arguments.items s) d.body t → Stands S s e t
+        → Means S (Call d.first arguments.items s) d.body t → Means S s e t
     opposite : {s : Scope} {e : Expression} {at : ℕ} {t : Tree} (operand : _)
-        → out-Expression e ≡ form.Not at operand → Stands S s operand.value t → Stands S s e (Not t)
+        → out-Expression e ≡ form.Not at operand → Means S s operand.value t → Means S s e (Not t)
     negative : {s : Scope} {e : Expression} {at : ℕ} {t : Tree} (operand : _)
-        → out-Expression e ≡ form.Negate at operand → Stands S s operand.value t → Stands S s e (Negate t)
+        → out-Expression e ≡ form.Negate at operand → Means S s operand.value t → Means S s e (Negate t)
     chain : {s : Scope} {e : Expression} {at : ℕ} {t : Tree} (first links : _) → out-Expression e ≡ form.Chain at first links
-        → ChainStands S s first.value links.items t → Stands S s e t
-    form_of : {s : Scope} {e : Expression} {t : Tree} (each : _) → out-Expression e ≡ form.Each each → FormStands S s each.value t
-        → Stands S s e t
+        → ChainMeans S s first.value links.items t → Means S s e t
+    form_of : {s : Scope} {e : Expression} {t : Tree} (each : _) → out-Expression e ≡ form.Each each → FormMeans S s each.value t
+        → Means S s e t
 
   -- `sum`, `all`, `some` or `at_least` means this plain expression
-  pub data FormStands (S : Setting) : Scope → Each → Tree → Type 0 where
+  pub data FormMeans (S : Setting) : Scope → Each → Tree → Type 0 where
     sum : {s : Scope} {each : Each} {ms : List ℤ} {t : Tree} → (out-Each each).form ≡ node.Sum
-        → HasMembers S.context s (out-Each each).binder ms → Joined S s each Add (Num (pos 0)) ms t → FormStands S s each t
+        → HasMembers S.context s (out-Each each).binder ms → Joined S s each Add (Num (pos 0)) ms t → FormMeans S s each t
     all : {s : Scope} {each : Each} {ms : List ℤ} {t : Tree} → (out-Each each).form ≡ node.All
-        → HasMembers S.context s (out-Each each).binder ms → Joined S s each And (Tru true) ms t → FormStands S s each t
+        → HasMembers S.context s (out-Each each).binder ms → Joined S s each And (Tru true) ms t → FormMeans S s each t
     some : {s : Scope} {each : Each} {ms : List ℤ} {t : Tree} → (out-Each each).form ≡ node.Some
-        → HasMembers S.context s (out-Each each).binder ms → Joined S s each Or (Tru false) ms t → FormStands S s each t
+        → HasMembers S.context s (out-Each each).binder ms → Joined S s each Or (Tru false) ms t → FormMeans S s each t
     at_least : {s : Scope} {each : Each} {least : Expression} {ms : List ℤ} {k : ℤ} {t : Tree} → (out-Each each).form ≡ node.AtLeast
         → HasMembers S.context s (out-Each each).binder ms → (out-Each each).least ≡ Some least → HasValue S.context s least (Num k)
-        → AtLeast S s each k ms t → FormStands S s each t
+        → AtLeast S s each k ms t → FormMeans S s each t
 
   -- operands with operators between them, grouped from the left: the last operator joins all before it and its right operand
-  pub data ChainStands (S : Setting) : Scope → Expression → List Link → Tree → Type 0 where
-    first_operand : {s : Scope} {e : Expression} {t : Tree} → Stands S s e t → ChainStands S s e [] t
-    last_operand : {s : Scope} {e : Expression} {t u : Tree} {links : List Link} (link : Link) → ChainStands S s e links t
-        → Stands S s (out-Link link).operand u → ChainStands S s e (links ++ (link ∷ [])) (Binary (out-Link link).operator t u)
+  pub data ChainMeans (S : Setting) : Scope → Expression → List Link → Tree → Type 0 where
+    first_operand : {s : Scope} {e : Expression} {t : Tree} → Means S s e t → ChainMeans S s e [] t
+    last_operand : {s : Scope} {e : Expression} {t u : Tree} {links : List Link} (link : Link) → ChainMeans S s e links t
+        → Means S s (out-Link link).operand u → ChainMeans S s e (links ++ (link ∷ [])) (Binary (out-Link link).operator t u)
 
   -- the expression of a form for each of these members, joined: the first half, rounded up, and the rest; without members it is `nothing`
   pub data Joined (S : Setting) : Scope → Each → Operator → Value → List ℤ → Tree → Type 0 where
     no_members : {s : Scope} {each : Each} {operator : Operator} {nothing : Value} {t : Tree}
         → IsWritten nothing t → Joined S s each operator nothing [] t
     one_member : {s : Scope} {each : Each} {operator : Operator} {nothing : Value} {t : Tree} {m : ℤ}
-        → Stands S (Member (out-Binder (out-Each each).binder).member m s) (out-Each each).body t
+        → Means S (Member (out-Binder (out-Each each).binder).member m s) (out-Each each).body t
         → Joined S s each operator nothing (m ∷ []) t
     halves : {s : Scope} {each : Each} {operator : Operator} {nothing : Value} {t u : Tree} {ms : List ℤ} → 2 ≤ length ms
         → Joined S s each operator nothing (take (length ms - length ms / 2) ms) t
@@ -107,6 +107,6 @@ mutual
     any : {s : Scope} {each : Each} {k : ℤ} {ms : List ℤ} {t : Tree} → k ≡ pos 1
         → Joined S s each Or (Tru false) ms t → AtLeast S s each k ms t
     either : {s : Scope} {each : Each} {k m : ℤ} {ms : List ℤ} {t r u : Tree} → pos 1 <ℤ k → k <ℤ pos (length (m ∷ ms))
-        → Stands S (Member (out-Binder (out-Each each).binder).member m s) (out-Each each).body t
+        → Means S (Member (out-Binder (out-Each each).binder).member m s) (out-Each each).body t
         → AtLeast S s each (k -ℤ pos 1) ms r → AtLeast S s each k ms u
         → AtLeast S s each k (m ∷ ms) (Binary Or (Binary And t r) u)

@@ -6,7 +6,7 @@ ghost use Rattle.notation_meaning.specs.ModelPrograms.{AssignmentsOf, ActionOf, 
 ghost use Rattle.notation_meaning.specs.AgreementViews.{scope_of, setting_of};
 
 use crate::difference::{DIFFERENT, deeper};
-use crate::plain::stands;
+use crate::plain::means;
 use crate::scopes::PlaceScope;
 use crate::setting::PlainSetting;
 use crate::written::{names_process, names_variable};
@@ -37,7 +37,7 @@ fn assignments(
                 return Err(DIFFERENT);
             };
             names_variable(setting, scope, &node.target, first.variable, inner)?;
-            stands(setting, scope, &node.value, &first.value, inner)?;
+            means(setting, scope, &node.value, &first.value, inner)?;
             assignments(setting, scope, others, rest, inner)
         }
     }
@@ -57,7 +57,7 @@ fn is_action(
         (ActionNode::Local, Action::Local) => Ok(()),
         (ActionNode::Send(_, to, sent), Action::Send { target, value }) => {
             names_process(setting, scope, to, *target, depth)?;
-            stands(setting, scope, sent, value, depth)
+            means(setting, scope, sent, value, depth)
         }
         (ActionNode::Receive(_, from, into), Action::Receive { source, variable }) => {
             names_process(setting, scope, from, *source, depth)?;
@@ -77,7 +77,7 @@ pub(crate) fn is_command(
 ) -> Expanding<()>
     ensures { IfOk result (λ _. CommandOf (setting_of setting.now) (scope_of scope.now) node.now (command_tree found.now)) }
 {
-    stands(setting, scope, &node.guard, &found.guard, depth)?;
+    means(setting, scope, &node.guard, &found.guard, depth)?;
     is_action(setting, scope, &node.action, &found.action, depth)?;
     assignments(
         setting,

@@ -4,7 +4,7 @@ ghost use Rattle.std.specs.Prelude.{◌≡◌, pos, ◌<ℤ◌, length, IfOk, Is
 ghost use Rattle.dbg_base.specs.Trees.{tree_of};
 ghost use Rattle.notation_tree.specs.ComputedValues.{value_of};
 ghost use Rattle.notation_meaning.specs.AgreementViews.{scope_of, setting_of};
-ghost use Rattle.notation_meaning.specs.PlainExpressions.{Stands, FormStands, ChainStands, Joined, AtLeast};
+ghost use Rattle.notation_meaning.specs.PlainExpressions.{Means, FormMeans, ChainMeans, Joined, AtLeast};
 
 use crate::difference::{DIFFERENT, deeper};
 use crate::scopes::{PlaceScope, argument};
@@ -48,15 +48,15 @@ fn is_operator(one: Operator, other: Operator) -> bool
 }
 
 /// Whether an expression means this plain expression.
-#[cycle(standing)]
-pub(crate) fn stands(
+#[cycle(meaning)]
+pub(crate) fn means(
     setting: &PlainSetting<'_>,
     scope: &PlaceScope<'_>,
     expression: &Expression,
     tree: &Expr,
     depth: u32,
 ) -> Expanding<()>
-    ensures { IfOk result (λ _. Stands (setting_of setting.now) (scope_of scope.now) expression.now (tree_of tree.now)) }
+    ensures { IfOk result (λ _. Means (setting_of setting.now) (scope_of scope.now) expression.now (tree_of tree.now)) }
 {
     let inner = deeper(depth)?;
     if let Some(value) = simple_value(&setting.known, scope, expression) {
@@ -67,7 +67,7 @@ pub(crate) fn stands(
             let Some(meant) = argument(&*scope, *number) else {
                 return Err(DIFFERENT);
             };
-            stands(setting, meant.scope, meant.expression, tree, inner)
+            means(setting, meant.scope, meant.expression, tree, inner)
         }
         Expression::Name(reference) => is_variable(setting, scope, reference, tree, inner),
         Expression::Count(_, direction, other) => {
@@ -76,34 +76,34 @@ pub(crate) fn stands(
         Expression::Call(_, number, arguments) => {
             let definition = callee(&setting.known, *number, arguments.as_slice())?;
             let within = PlaceScope::Call(definition.first, arguments.as_slice(), &*scope);
-            stands(setting, &within, &definition.body, tree, inner)
+            means(setting, &within, &definition.body, tree, inner)
         }
         Expression::Not(_, operand) => {
             let found = operand_of_not(tree)?;
-            stands(setting, scope, operand, found, inner)
+            means(setting, scope, operand, found, inner)
         }
         Expression::Negate(_, operand) => {
             let found = operand_of_minus(tree)?;
-            stands(setting, scope, operand, found, inner)
+            means(setting, scope, operand, found, inner)
         }
         Expression::Chain(_, first, links) => {
-            chain_stands(setting, scope, first, links.as_slice(), tree, inner)
+            chain_means(setting, scope, first, links.as_slice(), tree, inner)
         }
-        Expression::Each(each) => form_stands(setting, scope, each, tree, inner),
+        Expression::Each(each) => form_means(setting, scope, each, tree, inner),
         _ => Err(DIFFERENT),
     }
 }
 
 // Whether a form means this plain expression.
-#[cycle(standing)]
-fn form_stands(
+#[cycle(meaning)]
+fn form_means(
     setting: &PlainSetting<'_>,
     scope: &PlaceScope<'_>,
     each: &Each,
     tree: &Expr,
     depth: u32,
 ) -> Expanding<()>
-    ensures { IfOk result (λ _. FormStands (setting_of setting.now) (scope_of scope.now) each.now (tree_of tree.now)) }
+    ensures { IfOk result (λ _. FormMeans (setting_of setting.now) (scope_of scope.now) each.now (tree_of tree.now)) }
 {
     let inner = deeper(depth)?;
     let found = members(&setting.known, scope, &each.binder, inner)?;
@@ -123,8 +123,8 @@ fn form_stands(
 }
 
 // Whether operands with operators between them mean this plain expression.
-#[cycle(standing)]
-fn chain_stands(
+#[cycle(meaning)]
+fn chain_means(
     setting: &PlainSetting<'_>,
     scope: &PlaceScope<'_>,
     first: &Expression,
@@ -132,11 +132,11 @@ fn chain_stands(
     tree: &Expr,
     depth: u32,
 ) -> Expanding<()>
-    ensures { IfOk result (λ _. ChainStands (setting_of setting.now) (scope_of scope.now) first.now links.now (tree_of tree.now)) }
+    ensures { IfOk result (λ _. ChainMeans (setting_of setting.now) (scope_of scope.now) first.now links.now (tree_of tree.now)) }
 {
     let inner = deeper(depth)?;
     match links.split_last() {
-        None => stands(setting, scope, first, tree, inner),
+        None => means(setting, scope, first, tree, inner),
         Some((link, before)) => {
             let Expr::Binary(operator, left, right) = tree else {
                 return Err(DIFFERENT);
@@ -144,14 +144,14 @@ fn chain_stands(
             if !is_operator(link.operator, *operator) {
                 return Err(DIFFERENT);
             }
-            chain_stands(setting, scope, first, before, left, inner)?;
-            stands(setting, scope, &link.operand, right, inner)
+            chain_means(setting, scope, first, before, left, inner)?;
+            means(setting, scope, &link.operand, right, inner)
         }
     }
 }
 
 // Whether the expression of a form for each of these members, joined, is this plain expression.
-#[cycle(standing)]
+#[cycle(meaning)]
 fn joined(
     setting: &PlainSetting<'_>,
     scope: &PlaceScope<'_>,
@@ -170,7 +170,7 @@ fn joined(
         Some((only, others)) => {
             if others.len() == 0 {
                 let within = PlaceScope::Member(each.binder.member, *only, &*scope);
-                return stands(setting, &within, &each.body, tree, inner);
+                return means(setting, &within, &each.body, tree, inner);
             }
             let Expr::Binary(found, left, right) = tree else {
                 return Err(DIFFERENT);
@@ -186,7 +186,7 @@ fn joined(
 }
 
 // Whether this plain expression says that the expression of a form is true for so many of these members.
-#[cycle(standing)]
+#[cycle(meaning)]
 fn at_least(
     setting: &PlainSetting<'_>,
     scope: &PlaceScope<'_>,
@@ -216,7 +216,7 @@ fn at_least(
 }
 
 // The same for a number above 1, and below that of the members.
-#[cycle(standing)]
+#[cycle(meaning)]
 fn either(
     setting: &PlainSetting<'_>,
     scope: &PlaceScope<'_>,
@@ -241,7 +241,7 @@ fn either(
         return Err(DIFFERENT);
     };
     let within = PlaceScope::Member(each.binder.member, *first, &*scope);
-    stands(setting, &within, &each.body, holds, inner)?;
+    means(setting, &within, &each.body, holds, inner)?;
     at_least(setting, scope, each, least - 1, others, with, inner)?;
     at_least(setting, scope, each, least, others, without, inner)
 }

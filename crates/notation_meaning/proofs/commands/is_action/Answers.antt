@@ -7,7 +7,7 @@ returns-in-Local-Local c = rw (c.in-Local-Local.is-0, c.in-Local-Local.is-1) loc
 
 pub returns-in_ok-names_process-in-Send-Send : goal.returns-in_ok-names_process-in-Send-Send
 returns-in_ok-names_process-in-Send-Send c =
-    on_ok c.stands.result c.stands.ensures
+    on_ok c.means.result c.means.ensures
     (λ x h. rw (c.in-Send-Send.is-0, c.in-Send-Send.is-1) (send c.in_ok-names_process-in-Send-Send.ensures h))
 
 pub returns-in_ok-names_process-in-Receive-Receive : goal.returns-in_ok-names_process-in-Receive-Receive
