@@ -6,8 +6,8 @@ use shell_io::{Sink, Source};
 use shell_print::{ServeFault, Served, tell_too_long};
 use std::alloc::{AllocError, Global};
 use ui_repl::{
-    AnsweredLine, ExpandedLine, LineFault, OpenSession, Opening, PlayedSession, WrittenProgram,
-    open, wanted, write_text,
+    AnsweredLine, ExpandedLine, LineFault, OpenSession, Opening, WrittenProgram, open, wanted,
+    write_text,
 };
 use ui_session::Typed;
 use ui_text::Notes;
@@ -81,15 +81,11 @@ fn filled<R: Source + Typed>(
     if filler.text.last() != Some(&b'\n') {
         filler.text.extend_from_slice(b"\n")?;
     }
-    let PlayedSession {
-        served,
-        explainer,
-        lines,
-    } = session.play_unheard(alloc, written, None, filler, reader)?;
-    if served == Served::TooLong {
+    let played = session.play_unheard(alloc, written, None, filler, reader)?;
+    if played.served == Served::TooLong {
         return Ok(None);
     }
-    let (mut filler, mut lines) = (explainer, lines);
+    let (mut filler, mut lines) = (played.explainer, played.lines);
     while let Some(span) = lines.unplayed(reader)? {
         filler.begin(lines.input.line(span))?;
     }
