@@ -180,14 +180,6 @@ fn expect_taken(rt: &impl Abort, alloc: Global, input: &[u8], size: usize) {
     );
 }
 
-#[test]
-fn a_writer_takes_what_it_likes(rt: HostRuntime) {
-    let input = joined(&rt, rt.alloc(), TWO, LINES);
-    for size in 1..20 {
-        expect_taken(&rt, rt.alloc(), input.as_slice(), size);
-    }
-}
-
 // Accepts all, and fails at the `left`-th flush.
 #[derive(Drop)]
 struct Clogs {
@@ -223,8 +215,11 @@ fn expect_clog(rt: &impl Abort, alloc: Global, input: &[u8], left: usize) {
 }
 
 #[test]
-fn a_writer_fails_at_any_flush(rt: HostRuntime) {
+fn a_writer_takes_what_it_likes_and_fails_at_any_flush(rt: HostRuntime) {
     let input = joined(&rt, rt.alloc(), TWO, LINES);
+    for size in 1..20 {
+        expect_taken(&rt, rt.alloc(), input.as_slice(), size);
+    }
     for left in 0..5 {
         expect_clog(&rt, rt.alloc(), input.as_slice(), left);
     }

@@ -94,12 +94,15 @@ const EXPRESSIONS: [(u32, Form, Operand, u32, bool); 29] = [
     (0, Form::Equal, Operand::Variable, 1, true),
     (0, Form::Equal, Operand::Variable, 2, false),
     (0, Form::Equal, Operand::Variable, u32::MAX, false),
+    // counts that the process has
     (0, Form::Equal, Operand::Sent, 2, true),
     (0, Form::Equal, Operand::Got, 1, true),
+    // and others
     (0, Form::Equal, Operand::Sent, 0, false),
     (0, Form::Equal, Operand::Got, 0, false),
     (0, Form::Equal, Operand::Sent, 3, false),
     (0, Form::Equal, Operand::Got, u32::MAX, false),
+    // two other processes
     (1, Form::Equal, Operand::Sent, 0, true),
     (1, Form::Equal, Operand::Sent, 1, false),
     (1, Form::Equal, Operand::Variable, 1, false),
@@ -107,14 +110,17 @@ const EXPRESSIONS: [(u32, Form, Operand, u32, bool); 29] = [
     (2, Form::Alone, Operand::Truth, 0, true),
     // there are three processes
     (3, Form::Alone, Operand::Truth, 0, false),
+    // a guard is a truth value
     (0, Form::Alone, Operand::Truth, 0, true),
     (0, Form::Alone, Operand::Number, 0, false),
     (0, Form::Alone, Operand::Variable, 0, false),
     (0, Form::Alone, Operand::Sent, 1, false),
+    // operands of sums and comparisons
     (0, Form::Sum, Operand::Got, 1, false),
     (0, Form::SumEqual, Operand::Got, 1, true),
     (0, Form::Equal, Operand::Truth, 0, false),
     (0, Form::MinusEqual, Operand::Truth, 0, false),
+    // operands of `not`, `and` and `or`
     (0, Form::Not, Operand::Number, 0, false),
     (0, Form::Not, Operand::Truth, 0, true),
     (0, Form::NotAnd, Operand::Number, 0, false),
