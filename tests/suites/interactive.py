@@ -131,6 +131,17 @@ def given_up_problem(suite, begin):
     return "" if (status, of_session(shown)) == (3, "\n") else f"status {status}, and the terminal shows {shown!r}"
 
 
+def broken_off_problem(suite, begin):
+    """Types a program, and ends the input before a line `%%`. No other one is asked for."""
+    terminal = begin(suite)
+    terminal.until(PROMPT)
+    terminal.type("process a { }\n")
+    terminal.until(PROMPT)
+    terminal.type("\x04")
+    shown, status = terminal.ended()
+    return "" if status == 3 and "program refused" in shown and AGAIN not in shown else f"status {status}, and the terminal shows {shown!r}"
+
+
 def refused_file_problem(suite, file):
     """Begins a session with a file whose program is refused. Nobody has to type another one."""
     shown, status = direct(suite, file).ended()
@@ -428,6 +439,7 @@ def run(suite):
             suite.attempt(f"a program that is typed{by}", prompt_problem, suite, begin)
             suite.attempt(f"a program that is typed, refused and typed again{by}", again_problem, suite, begin)
             suite.attempt(f"a program that is typed and refused, and then Ctrl-D{by}", given_up_problem, suite, begin)
+            suite.attempt(f"a program that is typed without a line %%, and then Ctrl-D{by}", broken_off_problem, suite, begin)
             suite.attempt(f"an escape sequence, at a terminal{by}", control_problem, suite, begin, session)
             suite.attempt(f"colours at a terminal{by}", color_problem, suite, begin, session, True, {"NO_COLOR": ""})
             suite.attempt(f"no colours with NO_COLOR{by}", color_problem, suite, begin, session, False, {})

@@ -58,6 +58,7 @@ pub(crate) struct Typing<'a> {
     ahead: Option<u8>,
     // Whether the next byte belongs to a line that was asked for.
     is_in_line: bool,
+    is_at_end: bool,
 }
 
 impl<'a> Typing<'a> {
@@ -71,12 +72,13 @@ impl<'a> Typing<'a> {
             is_begun: false,
             ahead: None,
             is_in_line: false,
+            is_at_end: false,
         }
     }
 
-    // Asks for a program once more, after one that was refused. The answer is whether a person types one.
+    // Asks for a program once more, after one that was refused, unless the input has ended. The answer is whether a person types one.
     fn begins_again(&mut self) -> bool {
-        if !self.is_typed() {
+        if !self.is_typed() || self.is_at_end {
             return false;
         }
         self.prompt("Type the program again, or Ctrl-D to end.\n");
@@ -116,6 +118,7 @@ impl Read for Typing<'_> {
         self.is_in_line = false;
         let count = self.input.read(bytes)?;
         if count == 0 {
+            self.is_at_end = true;
             self.prompt("\n");
         }
         self.end.note(bytes.get(..count).unwrap_or(&[]));
