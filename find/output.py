@@ -39,4 +39,4 @@ def closing_problem(rdbg, session, text):
     if session.model.stuck:
         asked = len(session.model.processes)
         return "" if replies[-asked:] == ["no 24"] * asked else "the last lines are not answered `no 24`"
-    return "" if replies and re.search(r" halted \w+$", replies[-1]) else "the last line does not halt the session"
+    return "" if replies and re.search(r" halted \S+$", replies[-1]) else "the last line does not halt the session"

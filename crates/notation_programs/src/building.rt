@@ -21,14 +21,15 @@ pub struct CommandOrigin {
     pub(crate) at: usize,
 }
 
-/// A process of the plain program: its name, the declaration that it comes from, the values of its members and of its constants, and its
-/// commands.
+/// A process of the plain program: its name, the declaration that it comes from, the values of its members and of its constants, the names
+/// of its variables with their indices, as `vote[2]`, and its commands.
 #[derive(Drop)]
 pub struct ProcessCopy {
     pub name: Vec<u8>,
     pub declaration: usize,
     pub members: Vec<i64>,
     pub constants: Vec<Option<ConstantValue>>,
+    pub variables: Vec<Vec<u8>>,
     pub commands: Vec<CommandOrigin>,
 }
 
@@ -91,9 +92,20 @@ impl<'a> Builder<'a> {
         Ok(())
     }
 
+    // Notes a variable.
+    fn note_variable(&mut self, name: &Name, values: &[i64]) -> Result<(), AllocError> {
+        let mut text = Vec::from_slice(self.alloc(), name.bytes())?;
+        put_indices(&mut text, values)?;
+        if let Some(process) = self.processes.last_mut() {
+            process.variables.push(text)?;
+        }
+        Ok(())
+    }
+
     // Writes the variable for these members.
     fn variable_copy(&mut self, variable: &'a VariableNode, values: &[i64]) -> Expanding<()> {
         let alloc = self.alloc();
+        self.note_variable(&variable.name, values)?;
         let writer = &mut self.writer;
         let start = writer.environment.number(&variable.value, UNFOLDING)?;
         let name = member_name(alloc, &variable.name, values, variable.name_at)?;
@@ -254,6 +266,7 @@ impl<'a> Builder<'a> {
             declaration,
             members: Vec::from_slice(alloc, values)?,
             constants: Vec::new(alloc),
+            variables: Vec::new(alloc),
             commands: Vec::new(alloc),
         })?;
         self.items(process.items.as_slice(), REPEATS)?;

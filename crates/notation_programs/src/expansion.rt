@@ -214,6 +214,13 @@ impl Expansion {
         }
     }
 
+    /// The name of a variable in the source, with its indices, as `vote[2]`; None if the program has no such variable.
+    pub fn variable_name(&self, pid: Pid, variable: u32) -> Option<&[u8]> {
+        let process = self.built.processes.get(pid.0 as usize)?;
+        let name = process.variables.get(variable as usize)?;
+        Some(name.as_slice())
+    }
+
     /// The offset in the source at which a command begins, and its label with its indices, as `hear[2]`. The label is empty if it has none.
     pub fn command(&self, pid: Pid, choice: Choice) -> Option<(usize, &[u8])> {
         let process = self.built.processes.get(pid.0 as usize)?;

@@ -23,7 +23,7 @@ use Rattle.shell_serve.proofs.ReadStepLemmas.{reads_then}
 use Rattle.shell_serve.proofs.UnfinishedInputLemmas.{goes_on, none_left}
 use Rattle.shell_serve.specs.Sources.{Given, GivesAll}
 use Rattle.shell_serve.specs.InputSteps.{InputGives, InputStops, NoneLeft}
-use Rattle.shell_serve.specs.Sessions.{Says, SaysLines, SaysAll, LastEnds, ends_session, Plays}
+use Rattle.shell_serve.specs.Sessions.{exactly, Says, SaysLines, SaysAll, LastEnds, ends_session, Plays}
 use Rattle.shell_serve.specs.Serving.{end_of}
 use Rattle.shell_serve.specs.Plain.{plain}
 use Rattle.shell_serve.proofs.AnswerStepLemmas.{some_line, line_legal}
@@ -34,13 +34,13 @@ alone : (first reply reported out : List ℕ) → first ≡ [] → reported ≡ 
 alone first reply reported out none nothing is =
     is ∙ ap (λ (t : List ℕ). t ++ (reply ++ reported)) none ∙ ap (λ (t : List ℕ). reply ++ t) nothing ∙ append-nil reply
 
-says_reply : (P : Program) (line : List ℕ) (J : Journal) (out : List ℕ) (J' : Journal) → Says plain P (Some line) J out J'
+says_reply : (P : Program) (line : List ℕ) (J : Journal) (out : List ℕ) (J' : Journal) → Says plain exactly P (Some line) J out J'
     → AnswersLine P line J out J'
 says_reply P line J out J' says =
-    subst (λ (t : List ℕ). AnswersLine P line J t J') (sym (alone says.0 says.1 says.2 out says.3 says.5 says.6)) says.4
+    subst (λ (t : List ℕ). AnswersLine P line J t J') (sym (alone says.0 says.1 says.2 out says.3 says.5 says.6 ∙ says.4.2)) says.4.1
 
 says_replies : (P : Program) (lines : List (List ℕ)) (J : Journal) (out : List ℕ) (J' : Journal)
-    → SaysLines plain P (map Some lines) J out J' → AnswersLines P lines J out J'
+    → SaysLines plain exactly P (map Some lines) J out J' → AnswersLines P lines J out J'
 says_replies P [] J out J' says = says
 says_replies P (line ∷ lines) J out J' says =
     (says.0, says.1, says.2, says_reply P line J says.0 says.2 says.3, says_replies P lines says.2 says.1 J' says.4, says.5)
@@ -111,14 +111,14 @@ pub record RunsLines {R : Type 0} (remaining : R → Option (List ℕ)) (P : Pro
 module _ {R : Type 0} (remaining : R → Option (List ℕ)) (P : Program) (s : Input) (r : R) (ends : EndsWith s.ended (remaining r)) where
   -- a text for these lines
   module _ (given : List Given) (at : Input) (reader : R) (gives : GivesAll (InputGives remaining) s r given at reader)
-      (out end : List ℕ) (says : SaysAll plain P given end out) where
+      (out end : List ℕ) (says : SaysAll plain exactly P given end out) where
     gave : Gave remaining s r given at reader
     gave = all_gave remaining given s r at reader ends gives
 
     answers : AnswersLines P gave.lines [] says.0 says.1
     answers =
         says_replies P gave.lines [] says.0 says.1
-        (subst (λ (lines : List Given). SaysLines plain P lines [] says.0 says.1) gave.is says.2)
+        (subst (λ (lines : List Given). SaysLines plain exactly P lines [] says.0 says.1) gave.is says.2)
 
     -- no line is left
     module _ (t : Input) (u : R) (long : Bool) (reads : ReadsOn at.bytes.items at.ended (remaining reader) t.bytes.items t.ended (remaining u))
@@ -165,7 +165,7 @@ module _ {R : Type 0} (remaining : R → Option (List ℕ)) (P : Program) (s : I
         (subst (λ (lines : List (List ℕ)). AnswersAll P lines says.0) (sym whole) (says.1, answers, says.3))
 
   abbrev PlaysRun : Seen → Result Served ServeFault → Input → R → Seen → Type 0
-  PlaysRun old result t u new = Plays (InputGives remaining) (InputStops remaining) plain P s r old result t u new
+  PlaysRun old result t u new = Plays (InputGives remaining) (InputStops remaining) plain exactly P s r old result t u new
 
   abbrev Runs : Seen → Result Served ServeFault → Input → R → Seen → Type 0
   Runs old result t u new = RunsLines remaining P s r old result t u new

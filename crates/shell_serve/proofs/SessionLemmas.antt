@@ -23,42 +23,44 @@ use Rattle.shell_io.specs.declared.health.Health.TheVariants.{Fine, Failed}
 use Rattle.shell_print.specs.Outcomes.{source_after, sink_after}
 use Rattle.shell_print.specs.Writing.{AppendsPrefix, Writes}
 use Rattle.shell_serve.specs.Sources.{Given, Advances, GivesAll}
-use Rattle.shell_serve.specs.Sessions.{Manner, MayBeQuiet, Replies, Says, IsExplained, WritesForm, WritesLine, WritesAnswer, WritesReply, SaysLines, SaysAll, ends_session, NoneEnds, LastEnds, Plays}
+use Rattle.shell_serve.specs.Sessions.{Manner, Showing, MayBeQuiet, ShowsReply, Replies, Says, IsExplained, WritesForm, WritesLine, WritesAnswer, WritesReply, SaysLines, SaysAll, ends_session, NoneEnds, LastEnds, Plays}
 use Rattle.shell_serve.proofs.AnswerStepLemmas.{opens_legal, line_legal, some_line}
 use Rattle.shell_print.proofs.WriteLemmas.{prefix_then, writes_then, stopped}
 
-module _ (M : Manner) (P : Program) where
+module _ (M : Manner) (Shows : Showing) (P : Program) where
   -- an answer keeps a legal journal legal
-  replies_legal : (line : Given) (J : Journal) (reply : List ℕ) (after : Journal) → Replies M P line J reply after → IsLegal P J
+  replies_legal : (line : Given) (J : Journal) (reply : List ℕ) (after : Journal) → Replies M Shows P line J reply after → IsLegal P J
       → IsLegal P after
   replies_legal None J reply after replies legal = subst (IsLegal P) (sym replies.1) legal
   replies_legal (Some line) J reply after replies legal = by_kind (M.is_directive line) replies
     where
-      by_kind : (own : Bool) → MatchBool own ((reply ≡ []) × (after ≡ J)) (AnswersLine P (M.seated line) J reply after) → IsLegal P after
+      by_kind : (own : Bool) → MatchBool own ((reply ≡ []) × (after ≡ J)) (ShowsReply Shows P (M.seated line) J reply after)
+          → IsLegal P after
       by_kind true replies = subst (IsLegal P) (sym replies.1) legal
-      by_kind false replies = line_legal P (M.seated line) J reply after replies legal
+      by_kind false replies = line_legal P (M.seated line) J replies.0 after replies.1 legal
 
-  pub says_legal : (line : Given) (J : Journal) (out : List ℕ) (after : Journal) → Says M P line J out after → IsLegal P J
+  pub says_legal : (line : Given) (J : Journal) (out : List ℕ) (after : Journal) → Says M Shows P line J out after → IsLegal P J
       → IsLegal P after
   says_legal line J out after says legal = replies_legal line J says.1 after says.4 legal
 
   -- each line has a reply that makes no call
-  pub some_reply : (line : Given) (J : Journal) → IsLegal P J → (reply : List ℕ) × Replies M P line J reply J
-  some_reply None J legal = (as_line (refusal_text P refusals.Memory), (refl, refl))
-  some_reply (Some line) J legal = by_kind (M.is_directive line) refl
+  pub some_reply : ((due : List ℕ) → Shows due due) → (line : Given) (J : Journal) → IsLegal P J
+      → (reply : List ℕ) × Replies M Shows P line J reply J
+  some_reply same None J legal = (as_line (refusal_text P refusals.Memory), (same (as_line (refusal_text P refusals.Memory)), refl))
+  some_reply same (Some line) J legal = by_kind (M.is_directive line) refl
     where
-      by_kind : (own : Bool) → M.is_directive line ≡ own → (reply : List ℕ) × Replies M P (Some line) J reply J
+      by_kind : (own : Bool) → M.is_directive line ≡ own → (reply : List ℕ) × Replies M Shows P (Some line) J reply J
       by_kind true is = ([], rw is (refl, refl))
-      by_kind false is = let some = some_line P (M.seated line) J legal in (some.0, rw is some.1)
+      by_kind false is = let some = some_line P (M.seated line) J legal in (some.0, rw is (some.0, some.1, same some.0))
 
   -- the output for one more line
   pub says_more : (lines : List Given) (line : Given) (J : Journal) (out : List ℕ) (K : Journal) (more : List ℕ) (after : Journal)
-      → SaysLines M P lines J out K → Says M P line K more after → SaysLines M P (lines ++ line ∷ []) J (out ++ more) after
+      → SaysLines M Shows P lines J out K → Says M Shows P line K more after → SaysLines M Shows P (lines ++ line ∷ []) J (out ++ more) after
   says_more [] line J out K more after says one = (
     more,
     [],
     after,
-    subst (λ (L : Journal). Says M P line L more after) says.1 one,
+    subst (λ (L : Journal). Says M Shows P line L more after) says.1 one,
     (refl, refl),
     ap (λ (t : List ℕ). t ++ more) says.0 ∙ sym (append-nil more),
   )
@@ -100,17 +102,19 @@ module _ {S R : Type 0} (Gives : S → R → Given → S → R → Type 0) where
       (gives.0, gives.1, gives.2, gives_more lines line gives.0 m t gives.1 k u gives.3 one)
 
   -- The lines that were given were answered, and none of them ends the session.
-  pub record Answered (M : Manner) (P : Program) (s : S) (r : R) (at : S) (reader : R) (J : Journal) (old new : Seen) : Type 0 where
+  pub record Answered (M : Manner) (Shows : Showing) (P : Program) (s : S) (r : R) (at : S) (reader : R) (J : Journal)
+      (old new : Seen) : Type 0 where
     pub lines : List Given
     pub gives : GivesAll Gives s r lines at reader
     pub none : NoneEnds M lines
     pub text : List ℕ
-    pub says : SaysLines M P lines [] text J
+    pub says : SaysLines M Shows P lines [] text J
     pub legal : IsLegal P J
     pub written : Appended old new text
 
-  pub none_answered : (M : Manner) (P : Program) (s : S) (r : R) (J : Journal) (a : Seen) → J ≡ [] → Answered M P s r s r J a a
-  none_answered M P s r J a none = record {
+  pub none_answered : (M : Manner) (Shows : Showing) (P : Program) (s : S) (r : R) (J : Journal) (a : Seen) → J ≡ []
+      → Answered M Shows P s r s r J a a
+  none_answered M Shows P s r J a none = record {
     lines = [];
     gives = (refl, refl);
     none = refl;
@@ -120,9 +124,9 @@ module _ {S R : Type 0} (Gives : S → R → Given → S → R → Type 0) where
     written = appended_none a;
   }
 
-  module _ (Stops : S → R → Result Next ServeFault → S → R → Type 0) (M : Manner) (P : Program) (s : S) (r : R) where
+  module _ (Stops : S → R → Result Next ServeFault → S → R → Type 0) (M : Manner) (Shows : Showing) (P : Program) (s : S) (r : R) where
     abbrev pub PlaysBy : Seen → Result Served ServeFault → S → R → Seen → Type 0
-    PlaysBy old result t u new = Plays Gives Stops M P s r old result t u new
+    PlaysBy old result t u new = Plays Gives Stops M Shows P s r old result t u new
 
     -- memory ran out before the session was opened
     pub unopened : (old : Seen) → PlaysBy old (Err Memory) s r old
@@ -136,8 +140,8 @@ module _ {S R : Type 0} (Gives : S → R → Given → S → R → Type 0) where
       writes = appended_none old;
     }
 
-    module _ (m : S) (k : R) (J : Journal) (old mid : Seen) (answered : Answered M P s r m k J old mid) where
-      abbrev so_far : SaysAll M P answered.lines [] answered.text
+    module _ (m : S) (k : R) (J : Journal) (old mid : Seen) (answered : Answered M Shows P s r m k J old mid) where
+      abbrev so_far : SaysAll M Shows P answered.lines [] answered.text
       so_far = (answered.text, J, answered.says, answered.legal, sym (append-nil answered.text))
 
       -- the source gave no line
@@ -204,30 +208,31 @@ module _ {S R : Type 0} (Gives : S → R → Given → S → R → Type 0) where
         more_gives = gives_more answered.lines line s m t r k u answered.gives (subst (λ (g : Given). Gives m k g t u) (sym same) gave)
 
         -- the output, with that for the line
-        all_said : (text : List ℕ) → Says M P line J text after → SaysAll M P (answered.lines ++ line ∷ []) [] (answered.text ++ text)
+        all_said : (text : List ℕ) → Says M Shows P line J text after → SaysAll M Shows P (answered.lines ++ line ∷ []) []
+            (answered.text ++ text)
         all_said text says = (
           answered.text ++ text,
           after,
-          says_more M P answered.lines line [] answered.text J text after answered.says says,
-          says_legal M P line J text after says answered.legal,
+          says_more M Shows P answered.lines line [] answered.text J text after answered.says says,
+          says_legal M Shows P line J text after says answered.legal,
           sym (append-nil (answered.text ++ text)),
         )
 
         -- it was answered, and the session continues
-        pub line_answered : {A : Type 0} {v : A} → WritesLine {A = A} M P line J mid (Ok v) new after → ends_session M line ≡ false
-            → Answered M P s r t u after old new
+        pub line_answered : {A : Type 0} {v : A} → WritesLine {A = A} M Shows P line J mid (Ok v) new after → ends_session M line ≡ false
+            → Answered M Shows P s r t u after old new
         line_answered wrote on = record {
           lines = answered.lines ++ line ∷ [];
           gives = more_gives;
           none = none_more M answered.lines line answered.none on;
           text = answered.text ++ wrote.text;
-          says = says_more M P answered.lines line [] answered.text J wrote.text after answered.says wrote.says;
-          legal = says_legal M P line J wrote.text after wrote.says answered.legal;
+          says = says_more M Shows P answered.lines line [] answered.text J wrote.text after answered.says wrote.says;
+          legal = says_legal M Shows P line J wrote.text after wrote.says answered.legal;
           written = appended_then old mid new answered.text wrote.text answered.written wrote.written.whole;
         }
 
         -- it was answered, and ends the session
-        pub line_ends : {A : Type 0} {v : A} → WritesLine {A = A} M P line J mid (Ok v) new after → ends_session M line ≡ true
+        pub line_ends : {A : Type 0} {v : A} → WritesLine {A = A} M Shows P line J mid (Ok v) new after → ends_session M line ≡ true
             → PlaysBy old (Ok Done) t u new
         line_ends wrote last = record {
           lines = answered.lines ++ line ∷ [];
@@ -245,7 +250,8 @@ module _ {S R : Type 0} (Gives : S → R → Given → S → R → Type 0) where
 
         -- the answer was not written in full
         pub line_stops : {A : Type 0} {e : ServeFault} (result : Result Served ServeFault)
-            → WritesLine {A = A} M P line J mid (Err e) new after → e ≡ Write → IsErrAnd result (λ f. f ≡ e) → PlaysBy old result t u new
+            → WritesLine {A = A} M Shows P line J mid (Err e) new after → e ≡ Write → IsErrAnd result (λ f. f ≡ e)
+            → PlaysBy old result t u new
         line_stops (Ok served) wrote is same = absurd same
         line_stops (Err fault) wrote is same =
             subst (λ (f : ServeFault). PlaysBy old (Err f) t u new) (sym (same ∙ is)) (record {
@@ -263,47 +269,56 @@ module _ {S R : Type 0} (Gives : S → R → Given → S → R → Type 0) where
             })
 
 -- the output is the same, whatever else the result has
-pub result_ok : {A B : Type 0} {u : A} {v : B} (M : Manner) (P : Program) (line : Given) (J after : Journal) (old new : Seen)
-    → WritesLine {A = A} M P line J old (Ok u) new after → WritesLine {A = B} M P line J old (Ok v) new after
-result_ok M P line J after old new wrote = record
+pub result_ok : {A B : Type 0} {u : A} {v : B} (M : Manner) (Shows : Showing) (P : Program) (line : Given) (J after : Journal)
+    (old new : Seen)
+    → WritesLine {A = A} M Shows P line J old (Ok u) new after → WritesLine {A = B} M Shows P line J old (Ok v) new after
+result_ok M Shows P line J after old new wrote = record
     { text = wrote.text; says = wrote.says; written = record { whole = wrote.written.whole; part = tt; fault = tt } }
 
-pub result_err : {A B : Type 0} {e : ServeFault} {r : Result B ServeFault} (M : Manner) (P : Program) (line : Given) (J after : Journal)
-    (old new : Seen) → WritesLine {A = A} M P line J old (Err e) new after → IsErrAnd r (λ f. f ≡ e)
-    → WritesLine M P line J old r new after
-result_err {r = Ok v} M P line J after old new wrote same = absurd same
-result_err {r = Err f} M P line J after old new wrote same = record {
+pub result_err : {A B : Type 0} {e : ServeFault} {r : Result B ServeFault} (M : Manner) (Shows : Showing) (P : Program) (line : Given)
+    (J after : Journal)
+    (old new : Seen) → WritesLine {A = A} M Shows P line J old (Err e) new after → IsErrAnd r (λ f. f ≡ e)
+    → WritesLine M Shows P line J old r new after
+result_err {r = Ok v} M Shows P line J after old new wrote same = absurd same
+result_err {r = Err f} M Shows P line J after old new wrote same = record {
   text = wrote.text;
   says = wrote.says;
   written = record { whole = tt; part = wrote.written.part; fault = same ∙ wrote.written.fault };
 }
-
--- a text alone
-pub explained_alone : (M : Manner) → MayBeQuiet M → (text : List ℕ) → IsExplained M text text
-explained_alone M quiet text = ([], quiet.explains, sym (append-nil text))
 
 -- the text was flushed
 pub flushed : {A B : Type 0} {r : Result A ServeFault} {q : Result B ServeFault} {Form : List ℕ → Type 0} {a b c : Seen}
     → WritesForm Form a r b → ((old : Seen) (text : List ℕ) → Writes old b r text → Writes old c q text) → WritesForm Form a q c
 flushed told flushes = record { text = told.text; form = told.form; written = flushes _ told.text told.written }
 
--- a refusal of the program was written, and then an explanation or none
-pub refused_then : {A B : Type 0} {u : A} {r : Result B ServeFault} (M : Manner) (due : List ℕ) (a b c : Seen)
-    → Writes {A = A} a b (Ok u) due → WritesForm M.explains b r c → WritesForm (IsExplained M due) a r c
-refused_then M due a b c wrote reported =
-    record { text = due ++ reported.text; form = (reported.text, reported.form, refl); written = writes_then wrote reported.written }
+-- What is shown for a reply was written, and then an explanation or none. The style of the reply was set before it.
+pub refused_then : {A B C : Type 0} {u : A} {v : B} {r : Result C ServeFault} (M : Manner) (Shows : Showing) (due : List ℕ) (a b c d : Seen)
+    → Writes {A = A} a b (Ok u) [] → WritesForm {A = B} (Shows due) b (Ok v) c → WritesForm M.explains c r d
+    → WritesForm (IsExplained M Shows due) a r d
+refused_then M Shows due a b c d marked shown reported = record {
+  text = shown.text ++ reported.text;
+  form = (shown.text, reported.text, shown.form, reported.form, refl);
+  written = writes_then marked (writes_then shown.written reported.written);
+}
 
 -- or it was not written in full
-pub refused_not : {A B : Type 0} {e : ServeFault} {r : Result B ServeFault} (M : Manner) (due : List ℕ) (a b : Seen) → MayBeQuiet M
-    → Writes {A = A} a b (Err e) due → IsErrAnd r (λ f. f ≡ e) → WritesForm (IsExplained M due) a r b
-refused_not M due a b quiet wrote same =
-    record { text = due ++ []; form = ([], quiet.explains, refl); written = stopped [] wrote same }
+pub refused_not : {A B C : Type 0} {u : A} {e : ServeFault} {r : Result C ServeFault} (M : Manner) (Shows : Showing) (due : List ℕ)
+    (a b c : Seen) → MayBeQuiet M Shows → Writes {A = A} a b (Ok u) [] → WritesForm {A = B} (Shows due) b (Err e) c
+    → IsErrAnd r (λ f. f ≡ e) → WritesForm (IsExplained M Shows due) a r c
+refused_not M Shows due a b c quiet marked shown same = record {
+  text = shown.text ++ [];
+  form = (shown.text, [], shown.form, quiet.explains, refl);
+  written = stopped [] (writes_then marked shown.written) same;
+}
 
 -- or its style was not set, and nothing was written
-pub unmarked : {A B : Type 0} {e : ServeFault} {r : Result B ServeFault} (M : Manner) (due : List ℕ) (a b : Seen) → MayBeQuiet M
-    → Writes {A = A} a b (Err e) [] → IsErrAnd r (λ f. f ≡ e) → WritesForm (IsExplained M due) a r b
-unmarked M due a b quiet wrote same =
-    record { text = due ++ []; form = ([], quiet.explains, refl); written = stopped (due ++ []) wrote same }
+pub unmarked : {A B : Type 0} {e : ServeFault} {r : Result B ServeFault} (M : Manner) (Shows : Showing) (due : List ℕ) (a b : Seen)
+    → MayBeQuiet M Shows → Writes {A = A} a b (Err e) [] → IsErrAnd r (λ f. f ≡ e) → WritesForm (IsExplained M Shows due) a r b
+unmarked M Shows due a b quiet wrote same = record {
+  text = due ++ [];
+  form = (due, [], quiet.shows due, quiet.explains, refl);
+  written = stopped (due ++ []) wrote same;
+}
 
 -- The end of a call with `?`: the output is the same, whatever else the result has.
 pub form_ok : {A B : Type 0} {u : A} {v : B} {Form : List ℕ → Type 0} {a b : Seen} → WritesForm {A = A} Form a (Ok u) b
@@ -320,11 +335,12 @@ form_err {r = Err f} wrote same = record {
 }
 
 -- the output before the answer was not written in full, and nothing after it was written
-pub before_stops : {A B : Type 0} {e : ServeFault} {r : Result B ServeFault} (M : Manner) (P : Program) (line : Given) (J : Journal)
-    (a b : Seen) → MayBeQuiet M → IsLegal P J → WritesForm {A = A} (M.before line) a (Err e) b → IsErrAnd r (λ f. f ≡ e)
-    → WritesLine M P line J a r b J
-before_stops M P line J a b quiet legal first same =
-    let some = some_reply M P line J legal in
+pub before_stops : {A B : Type 0} {e : ServeFault} {r : Result B ServeFault} (M : Manner) (Shows : Showing) (P : Program) (line : Given)
+    (J : Journal)
+    (a b : Seen) → MayBeQuiet M Shows → IsLegal P J → WritesForm {A = A} (M.before line) a (Err e) b → IsErrAnd r (λ f. f ≡ e)
+    → WritesLine M Shows P line J a r b J
+before_stops M Shows P line J a b quiet legal first same =
+    let some = some_reply M Shows P quiet.shows line J legal in
     record {
       text = first.text ++ (some.0 ++ []);
       says = (first.text, some.0, [], first.form, some.1, quiet.explains, refl);
@@ -332,17 +348,17 @@ before_stops M P line J a b quiet legal first same =
     }
 
 -- a line was answered
-pub line_said : {A B : Type 0} {u : A} {r : Result B ServeFault} (M : Manner) (P : Program) (given : Given) (line : List ℕ)
+pub line_said : {A B : Type 0} {u : A} {r : Result B ServeFault} (M : Manner) (Shows : Showing) (P : Program) (given : Given) (line : List ℕ)
     (J after : Journal) (a b c : Seen) → given ≡ Some line → WritesForm {A = A} (M.before given) a (Ok u) b
-    → WritesAnswer M P line J b r c after → WritesLine M P given J a r c after
-line_said M P given line J after a b c is first answer = record {
+    → WritesAnswer M Shows P line J b r c after → WritesLine M Shows P given J a r c after
+line_said M Shows P given line J after a b c is first answer = record {
   text = first.text ++ (answer.reply ++ answer.reported);
   says = (
     first.text,
     answer.reply,
     answer.reported,
     first.form,
-    subst (λ (g : Given). Replies M P g J answer.reply after) (sym is) answer.replies,
+    subst (λ (g : Given). Replies M Shows P g J answer.reply after) (sym is) answer.replies,
     answer.explains,
     refl,
   );
@@ -350,30 +366,29 @@ line_said M P given line J after a b c is first answer = record {
 }
 
 -- a line for which memory ran out was refused
-pub lost_said : {A B : Type 0} {u : A} {r : Result B ServeFault} (M : Manner) (P : Program) (given : Given) (J : Journal) (a b c : Seen)
-    → given ≡ None → WritesForm {A = A} (M.before given) a (Ok u) b
-    → WritesForm (IsExplained M (as_line (refusal_text P refusals.Memory))) b r c → WritesLine M P given J a r c J
-lost_said M P given J a b c is first told =
-    let reply : List ℕ = as_line (refusal_text P refusals.Memory) in
-    let lost : Replies M P None J reply J = (refl, refl) in
+pub lost_said : {A B : Type 0} {u : A} {r : Result B ServeFault} (M : Manner) (Shows : Showing) (P : Program) (given : Given) (J : Journal)
+    (a b c : Seen) → given ≡ None → WritesForm {A = A} (M.before given) a (Ok u) b
+    → WritesForm (IsExplained M Shows (as_line (refusal_text P refusals.Memory))) b r c → WritesLine M Shows P given J a r c J
+lost_said M Shows P given J a b c is first told =
+    let lost : Replies M Shows P None J told.form.0 J = (told.form.2, refl) in
     record {
       text = first.text ++ told.text;
       says = (
         first.text,
-        reply,
         told.form.0,
-        first.form,
-        subst (λ (g : Given). Replies M P g J reply J) (sym is) lost,
         told.form.1,
-        ap (λ (t : List ℕ). first.text ++ t) told.form.2,
+        first.form,
+        subst (λ (g : Given). Replies M Shows P g J told.form.0 J) (sym is) lost,
+        told.form.3,
+        ap (λ (t : List ℕ). first.text ++ t) told.form.4,
       );
       written = writes_then first.written told.written;
     }
 
-module _ (M : Manner) (P : Program) (line : List ℕ) (J : Journal) where
+module _ (M : Manner) (Shows : Showing) (P : Program) (line : List ℕ) (J : Journal) where
   -- a directive was answered
   pub directive_said : {B : Type 0} {r : Result B ServeFault} (a b : Seen) → M.is_directive line ≡ true → WritesForm M.explains a r b
-      → WritesAnswer M P line J a r b J
+      → WritesAnswer M Shows P line J a r b J
   directive_said a b own reported = record {
     reply = [];
     reported = reported.text;
@@ -384,7 +399,7 @@ module _ (M : Manner) (P : Program) (line : List ℕ) (J : Journal) where
 
   -- a command line was answered
   pub command_said : {B : Type 0} {r : Result B ServeFault} (after : Journal) (a b : Seen) → M.is_directive line ≡ false
-      → WritesReply M P (M.seated line) J a r b after → WritesAnswer M P line J a r b after
+      → WritesReply M Shows P (M.seated line) J a r b after → WritesAnswer M Shows P line J a r b after
   command_said after a b own answer = record {
     reply = answer.reply;
     reported = answer.reported;
@@ -394,9 +409,10 @@ module _ (M : Manner) (P : Program) (line : List ℕ) (J : Journal) where
   }
 
 -- the answer is the same, whatever else the result has
-pub answer_ok : {A B : Type 0} {u : A} {v : B} (M : Manner) (P : Program) (line : List ℕ) (J after : Journal) (old new : Seen)
-    → WritesAnswer {A = A} M P line J old (Ok u) new after → WritesAnswer {A = B} M P line J old (Ok v) new after
-answer_ok M P line J after old new wrote = record {
+pub answer_ok : {A B : Type 0} {u : A} {v : B} (M : Manner) (Shows : Showing) (P : Program) (line : List ℕ) (J after : Journal)
+    (old new : Seen)
+    → WritesAnswer {A = A} M Shows P line J old (Ok u) new after → WritesAnswer {A = B} M Shows P line J old (Ok v) new after
+answer_ok M Shows P line J after old new wrote = record {
   reply = wrote.reply;
   reported = wrote.reported;
   replies = wrote.replies;
@@ -404,11 +420,12 @@ answer_ok M P line J after old new wrote = record {
   written = record { whole = wrote.written.whole; part = tt; fault = tt };
 }
 
-pub answer_err : {A B : Type 0} {e : ServeFault} {r : Result B ServeFault} (M : Manner) (P : Program) (line : List ℕ) (J after : Journal)
-    (old new : Seen) → WritesAnswer {A = A} M P line J old (Err e) new after → IsErrAnd r (λ f. f ≡ e)
-    → WritesAnswer M P line J old r new after
-answer_err {r = Ok v} M P line J after old new wrote same = absurd same
-answer_err {r = Err f} M P line J after old new wrote same = record {
+pub answer_err : {A B : Type 0} {e : ServeFault} {r : Result B ServeFault} (M : Manner) (Shows : Showing) (P : Program) (line : List ℕ)
+    (J after : Journal)
+    (old new : Seen) → WritesAnswer {A = A} M Shows P line J old (Err e) new after → IsErrAnd r (λ f. f ≡ e)
+    → WritesAnswer M Shows P line J old r new after
+answer_err {r = Ok v} M Shows P line J after old new wrote same = absurd same
+answer_err {r = Err f} M Shows P line J after old new wrote same = record {
   reply = wrote.reply;
   reported = wrote.reported;
   replies = wrote.replies;

@@ -31,30 +31,44 @@ pub record Manner : Type 1 where
   -- the lines that end the session
   pub ends : List ℕ → Bool
 
+-- which texts may be shown for the line of a reply
+abbrev pub Showing : Type 1
+Showing = List ℕ → List ℕ → Type 0
+
+-- that line alone
+abbrev pub exactly : Showing
+exactly due shown = shown ≡ due
+
 -- the line is taken as one of the first seat, or as it is
 abbrev pub IsSeated : Bool → List ℕ → List ℕ → Type 0
 IsSeated needs_seat line seated = MatchBool needs_seat (seated ≡ codes "1 " ++ line) (seated ≡ line)
 
--- the replies may be the only output
-pub record MayBeQuiet (M : Manner) : Type 0 where
+-- the replies of a run may be the only output
+pub record MayBeQuiet (M : Manner) (Shows : Showing) : Type 0 where
   pub before : (line : Given) → M.before line []
   pub explains : M.explains []
+  pub shows : (due : List ℕ) → Shows due due
+
+-- what is shown for the reply of a run to a command line, and the journal after it
+abbrev pub ShowsReply : Showing → Program → List ℕ → Journal → List ℕ → Journal → Type 0
+ShowsReply Shows P line J reply J' = (due : List ℕ) × AnswersLine P line J due J' × Shows due reply
 
 -- A directive has no reply, and leaves the journal as it is. Each other line has the reply of a run. A line for which memory ran out is
 -- refused for that, and leaves the journal as it is.
-abbrev pub Replies : Manner → Program → Given → Journal → List ℕ → Journal → Type 0
-Replies M P None J reply J' = (reply ≡ as_line (refusal_text P refusals.Memory)) × (J' ≡ J)
-Replies M P (Some line) J reply J' =
-    MatchBool (M.is_directive line) ((reply ≡ []) × (J' ≡ J)) (AnswersLine P (M.seated line) J reply J')
+abbrev pub Replies : Manner → Showing → Program → Given → Journal → List ℕ → Journal → Type 0
+Replies M Shows P None J reply J' = Shows (as_line (refusal_text P refusals.Memory)) reply × (J' ≡ J)
+Replies M Shows P (Some line) J reply J' =
+    MatchBool (M.is_directive line) ((reply ≡ []) × (J' ≡ J)) (ShowsReply Shows P (M.seated line) J reply J')
 
 -- the output for a line, from a journal to the journal after it
-abbrev pub Says : Manner → Program → Given → Journal → List ℕ → Journal → Type 0
-Says M P line J out J' =
-    (first reply reported : List ℕ) × M.before line first × Replies M P line J reply J' × M.explains reported × (out ≡ first ++ (reply ++ reported))
+abbrev pub Says : Manner → Showing → Program → Given → Journal → List ℕ → Journal → Type 0
+Says M Shows P line J out J' =
+    (first reply reported : List ℕ) × M.before line first × Replies M Shows P line J reply J' × M.explains reported
+    × (out ≡ first ++ (reply ++ reported))
 
--- a text, and an explanation after it
-abbrev pub IsExplained : Manner → List ℕ → List ℕ → Type 0
-IsExplained M due out = (reported : List ℕ) × M.explains reported × (out ≡ due ++ reported)
+-- what is shown for the line of a reply, and an explanation after it
+abbrev pub IsExplained : Manner → Showing → List ℕ → List ℕ → Type 0
+IsExplained M Shows due out = (shown reported : List ℕ) × Shows due shown × M.explains reported × (out ≡ shown ++ reported)
 
 -- A text of this form was written, or if the writer failed a prefix of it.
 pub record WritesForm {A : Type 0} (Form : List ℕ → Type 0) (old : Seen) (result : Result A ServeFault) (new : Seen) : Type 0 where
@@ -63,40 +77,43 @@ pub record WritesForm {A : Type 0} (Form : List ℕ → Type 0) (old : Seen) (re
   pub written : Writes old new result text
 
 -- The text for the line was written, or if the writer failed a prefix of it, and this is the journal after it.
-pub record WritesLine {A : Type 0} (M : Manner) (P : Program) (line : Given) (J : Journal) (old : Seen) (result : Result A ServeFault)
+pub record WritesLine {A : Type 0} (M : Manner) (Shows : Showing) (P : Program) (line : Given) (J : Journal) (old : Seen)
+    (result : Result A ServeFault)
     (new : Seen) (after : Journal) : Type 0 where
   pub text : List ℕ
-  pub says : Says M P line J text after
+  pub says : Says M Shows P line J text after
   pub written : Writes old new result text
 
 -- The reply to a line that was made and an explanation were written, or a prefix of that.
-pub record WritesAnswer {A : Type 0} (M : Manner) (P : Program) (line : List ℕ) (J : Journal) (old : Seen) (result : Result A ServeFault)
+pub record WritesAnswer {A : Type 0} (M : Manner) (Shows : Showing) (P : Program) (line : List ℕ) (J : Journal) (old : Seen)
+    (result : Result A ServeFault)
     (new : Seen) (after : Journal) : Type 0 where
   pub reply : List ℕ
   pub reported : List ℕ
-  pub replies : Replies M P (Some line) J reply after
+  pub replies : Replies M Shows P (Some line) J reply after
   pub explains : M.explains reported
   pub written : Writes old new result (reply ++ reported)
 
 -- The reply to a command line, which has its seat, and an explanation were written, or a prefix of that.
-pub record WritesReply {A : Type 0} (M : Manner) (P : Program) (line : List ℕ) (J : Journal) (old : Seen) (result : Result A ServeFault)
+pub record WritesReply {A : Type 0} (M : Manner) (Shows : Showing) (P : Program) (line : List ℕ) (J : Journal) (old : Seen)
+    (result : Result A ServeFault)
     (new : Seen) (after : Journal) : Type 0 where
   pub reply : List ℕ
   pub reported : List ℕ
-  pub answers : AnswersLine P line J reply after
+  pub answers : ShowsReply Shows P line J reply after
   pub explains : M.explains reported
   pub written : Writes old new result (reply ++ reported)
 
 -- the output for these lines, one after the other
-abbrev pub SaysLines : Manner → Program → List Given → Journal → List ℕ → Journal → Type 0
-SaysLines M P [] J out J' = (out ≡ []) × (J' ≡ J)
-SaysLines M P (line ∷ lines) J out J' =
-    (first others : List ℕ) × (between : Journal) × Says M P line J first between × SaysLines M P lines between others J'
+abbrev pub SaysLines : Manner → Showing → Program → List Given → Journal → List ℕ → Journal → Type 0
+SaysLines M Shows P [] J out J' = (out ≡ []) × (J' ≡ J)
+SaysLines M Shows P (line ∷ lines) J out J' =
+    (first others : List ℕ) × (between : Journal) × Says M Shows P line J first between × SaysLines M Shows P lines between others J'
     × (out ≡ first ++ others)
 
 -- the output for these lines from the opening on, and then this text: the calls that the lines make are a legal journal
-abbrev pub SaysAll : Manner → Program → List Given → List ℕ → List ℕ → Type 0
-SaysAll M P lines end out = (text : List ℕ) × (J : Journal) × SaysLines M P lines [] text J × IsLegal P J × (out ≡ text ++ end)
+abbrev pub SaysAll : Manner → Showing → Program → List Given → List ℕ → List ℕ → Type 0
+SaysAll M Shows P lines end out = (text : List ℕ) × (J : Journal) × SaysLines M Shows P lines [] text J × IsLegal P J × (out ≡ text ++ end)
 
 -- the line ends the session
 abbrev pub ends_session : Manner → Given → Bool
@@ -131,11 +148,12 @@ WritesBy old new (Err Memory) Due = Appended old new []
 
 -- A session of a program: which lines the source gave, how it ended, and what was written.
 pub record Plays {S R : Type 0} (Gives : S → R → Given → S → R → Type 0) (Stops : S → R → Result Next ServeFault → S → R → Type 0)
-    (M : Manner) (P : Program) (s : S) (r : R) (old : Seen) (result : Result Served ServeFault) (t : S) (u : R) (new : Seen) : Type 0 where
+    (M : Manner) (Shows : Showing) (P : Program) (s : S) (r : R) (old : Seen) (result : Result Served ServeFault) (t : S) (u : R)
+    (new : Seen) : Type 0 where
   pub lines : List Given
   pub at : S
   pub reader : R
   pub end : List ℕ
   pub gives : GivesAll Gives s r lines at reader
   pub ends : EndsBy M lines (λ stop. Stops at reader stop t u) ((t ≡ at) × (u ≡ reader)) result end
-  pub writes : WritesBy old new result (SaysAll M P lines end)
+  pub writes : WritesBy old new result (SaysAll M Shows P lines end)

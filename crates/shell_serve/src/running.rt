@@ -14,6 +14,7 @@ ghost use Rattle.shell_serve.specs.Answering.{IsMaker, AreAllSeats};
 use crate::framing::Next;
 use crate::line::answer_line;
 use crate::observer::Observer;
+use crate::reply_form::ReplyForm;
 use crate::source::{Answer, LineSource};
 use dbg_base::limits::SEATS;
 use dbg_base::{Plan, Refusal};
@@ -35,6 +36,7 @@ fn answer_lines<
     C: Command,
     M: Fn(Givable) -> Result<C, Refusal>,
     T: Observer<N>,
+    F: ReplyForm,
     S: LineSource<R, N>,
     N,
     R: Source,
@@ -43,6 +45,7 @@ fn answer_lines<
     alloc: Global,
     make: &M,
     observer: &mut T,
+    form: &F,
     locked: &mut Locked<L, C>,
     seats: &mut [Seat<L>],
     source: &mut S,
@@ -50,11 +53,12 @@ fn answer_lines<
     writer: &mut W,
 ) -> Result<Served, ServeFault>
     requires makes { (M.IsAlwaysCallable make.now) × IsMaker (M.post make.now) C.IsFresh C.order }
-    requires quiet { MayBeQuiet T.manner }
+    requires quiet { MayBeQuiet T.manner (F.Shows form.now) }
     requires opened { (locked.old.journal ≡ []) × AreAllSeats seats.old }
     requires ready { S.Ready source.old reader.old }
     ensures ready { S.Ready source.new reader.new }
-    ensures plays { Plays S.Gives S.Stops T.manner L.program source.old reader.old (W.seen writer.old) result source.new reader.new
+    ensures plays { Plays S.Gives S.Stops T.manner (F.Shows form.now) L.program source.old reader.old
+        (W.seen writer.old) result source.new reader.new
         (W.seen writer.new) }
     ensures reader { R.health reader.old ≡ Fine → R.health reader.new ≡ source_after result }
     ensures writer { (W.seen writer.old).health ≡ Fine → (W.seen writer.new).health ≡ sink_after result }
@@ -64,7 +68,7 @@ fn answer_lines<
         match source.advance(reader, last)? {
             Next::Line(span) => {
                 let line = source.line(span);
-                last = answer_line(alloc, make, observer, locked, seats, &line, writer)?;
+                last = answer_line(alloc, make, observer, form, locked, seats, &line, writer)?;
                 if last.is_end() {
                     return Ok(Served::Done);
                 }
@@ -81,6 +85,7 @@ fn begin<
     C: Command,
     M: Fn(Givable) -> Result<C, Refusal>,
     T: Observer<N>,
+    F: ReplyForm,
     S: LineSource<R, N>,
     N,
     R: Source,
@@ -89,17 +94,19 @@ fn begin<
     alloc: Global,
     make: &M,
     observer: &mut T,
+    form: &F,
     opening: Opening,
     source: &mut S,
     reader: &mut R,
     writer: &mut W,
 ) -> Result<Served, ServeFault>
     requires makes { (M.IsAlwaysCallable make.now) × IsMaker (M.post make.now) C.IsFresh C.order }
-    requires quiet { MayBeQuiet T.manner }
+    requires quiet { MayBeQuiet T.manner (F.Shows form.now) }
     requires opening { IsOpeningOf L.program L.board L.name L.parts L.seats opening × (L.seats ≡ SEATS) }
     requires ready { S.Ready source.old reader.old }
     ensures ready { S.Ready source.new reader.new }
-    ensures plays { Plays S.Gives S.Stops T.manner L.program source.old reader.old (W.seen writer.old) result source.new reader.new
+    ensures plays { Plays S.Gives S.Stops T.manner (F.Shows form.now) L.program source.old reader.old
+        (W.seen writer.old) result source.new reader.new
         (W.seen writer.new) }
     ensures reader { R.health reader.old ≡ Fine → R.health reader.new ≡ source_after result }
     ensures writer { (W.seen writer.old).health ≡ Fine → (W.seen writer.new).health ≡ sink_after result }
@@ -110,6 +117,7 @@ fn begin<
                 alloc,
                 make,
                 observer,
+                form,
                 &mut locked,
                 &mut seats,
                 source,
@@ -130,6 +138,7 @@ fn run_program<
     C: Command,
     M: Fn(Givable) -> Result<C, Refusal>,
     T: Observer<N>,
+    F: ReplyForm,
     S: LineSource<R, N>,
     N,
     R: Source,
@@ -138,51 +147,55 @@ fn run_program<
     alloc: Global,
     make: &M,
     observer: &mut T,
+    form: &F,
     program: Program,
     source: &mut S,
     reader: &mut R,
     writer: &mut W,
 ) -> Result<Served, ServeFault>
     requires makes { (M.IsAlwaysCallable make.now) × IsMaker (M.post make.now) C.IsFresh C.order }
-    requires quiet { MayBeQuiet T.manner }
+    requires quiet { MayBeQuiet T.manner (F.Shows form.now) }
     requires ready { S.Ready source.old reader.old }
     ensures ready { S.Ready source.new reader.new }
-    ensures plays { Plays S.Gives S.Stops T.manner (program_of program) source.old reader.old (W.seen writer.old) result source.new reader.new
+    ensures plays { Plays S.Gives S.Stops T.manner (F.Shows form.now) (program_of program) source.old reader.old
+        (W.seen writer.old) result source.new reader.new
         (W.seen writer.new) }
     ensures reader { R.health reader.old ≡ Fine → R.health reader.new ≡ source_after result }
     ensures writer { (W.seen writer.old).health ≡ Fine → (W.seen writer.new).health ≡ sink_after result }
 {
     match Opening::new(alloc, program, SEATS) {
         Ok(opening) => {
-            begin::<Brand, C, M, T, S, N, R, W>(
-                alloc, make, observer, opening, source, reader, writer,
+            begin::<Brand, C, M, T, F, S, N, R, W>(
+                alloc, make, observer, form, opening, source, reader, writer,
             )
         }
         Err(_) => Err(ServeFault::Memory),
     }
 }
 
-/// Plays a session of a program: answers each line that the source gives, in order and in the manner of the observer, up to one that ends
-/// the session. The output for a line is flushed before the next line is read. The lines are calls of one session.
+/// Plays a session of a program: answers each line that the source gives, in order, in the manner of the observer and with replies in this
+/// form, up to one that ends the session. The output for a line is flushed before the next line is read. The lines are calls of one session.
 ///
 /// If the source gives too much, that is reported after the answers. If the reader fails, the session ends after the output for all lines
 /// before the failure. If the writer fails, a prefix of the output was written. Neither is tried again. If memory runs out before the first
 /// line, nothing is written. If it runs out later, the line is answered `no 21` and changes nothing. When the session ends, its memory is
 /// left to the process, which ends with it.
-pub fn play<T: Observer<N>, S: LineSource<R, N>, N, R: Source, W: Sink>(
+pub fn play<T: Observer<N>, F: ReplyForm, S: LineSource<R, N>, N, R: Source, W: Sink>(
     alloc: Global,
     observer: &mut T,
+    form: &F,
     program: Program,
     source: &mut S,
     reader: &mut R,
     writer: &mut W,
 ) -> Result<Served, ServeFault>
-    requires quiet { MayBeQuiet T.manner }
+    requires quiet { MayBeQuiet T.manner (F.Shows form.now) }
     requires ready { S.Ready source.old reader.old }
     // What the source and the reader need is kept.
     ensures ready { S.Ready source.new reader.new }
     // The output is due for the lines that the source gave: in full, or as far as a failure allows.
-    ensures plays { Plays S.Gives S.Stops T.manner (program_of program) source.old reader.old (W.seen writer.old) result source.new reader.new
+    ensures plays { Plays S.Gives S.Stops T.manner (F.Shows form.now) (program_of program) source.old reader.old
+        (W.seen writer.old) result source.new reader.new
         (W.seen writer.new) }
     // A failure of the reader or of the writer is reported exactly if there was one. There was only one then: nothing was tried again.
     ensures reader { R.health reader.old ≡ Fine → R.health reader.new ≡ source_after result }
@@ -208,7 +221,7 @@ pub fn play<T: Observer<N>, S: LineSource<R, N>, N, R: Source, W: Sink>(
         };
         Ok(command)
     };
-    run_program::<Box<dyn Command>, _, _, _, _, _, _>(
-        alloc, &make, observer, program, source, reader, writer,
+    run_program::<Box<dyn Command>, _, _, _, _, _, _, _>(
+        alloc, &make, observer, form, program, source, reader, writer,
     )
 }

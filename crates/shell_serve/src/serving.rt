@@ -13,6 +13,7 @@ ghost use Rattle.shell_serve.specs.Serving.{ServesInput, BreaksInput};
 
 use crate::framing::Input;
 use crate::program_text::{TextEnd, read_program_text};
+use crate::reply_form::PlainReplies;
 use crate::running::play;
 use crate::silent::Silent;
 use proc_lang::{ProgError, parse_program};
@@ -62,7 +63,15 @@ pub fn serve<R: Source, W: Sink>(
         TextEnd::Before(span) => {
             let text = input.before(span);
             match parse_program(alloc, text) {
-                Ok(program) => play(alloc, &mut Silent, program, &mut input, reader, writer),
+                Ok(program) => play(
+                    alloc,
+                    &mut Silent,
+                    &PlainReplies,
+                    program,
+                    &mut input,
+                    reader,
+                    writer,
+                ),
                 Err(ProgError::Bad(fault)) => tell_fault(&fault, writer),
                 Err(ProgError::Memory) => Err(ServeFault::Memory),
             }

@@ -140,8 +140,9 @@ fn tell_event(
     shown: ShownEvent,
 ) -> Result<(), AllocError> {
     if let Some(event) = event_of(view.world, shown) {
-        notes.say_with("command {}: ", &[Part::Natural(event.choice().0)])?;
-        ProcessView::new(view.program, text, shown.pid).put_event(notes, view.world, event)?;
+        let scope = ProcessView::new(view.program, text, shown.pid);
+        notes.say_with("command {}: ", &[scope.command(event.choice())])?;
+        scope.put_event(notes, view.world, event)?;
     }
     Ok(())
 }

@@ -4,7 +4,7 @@ use dbg_base::{Pid, Refusal};
 use std::alloc::{AllocError, Global};
 use ui_text::{Notes, Part};
 use ui_timeline::{
-    NamedCut, Selection, ShownEvent, Timeline, bytes_of, event_of, halting, named_cuts,
+    NamedCut, Selection, ShownEvent, Timeline, bytes_of, event_of, halting, named_cuts, put_joined,
     put_left_out, put_setting, size,
 };
 use ui_view::{ProcessView, SourceView};
@@ -124,14 +124,17 @@ impl MermaidSheet<'_> {
         false
     }
 
-    // What an event set, in parts of a note: nothing, if it set nothing.
+    // The label of an event, and what it set, in parts of a note: nothing, if it has no label and set nothing.
     fn settings(&self, shown: ShownEvent) -> Result<Notes, AllocError> {
         let mut words = Notes::new(self.alloc);
-        let settings = match event_of(self.view.session.world, shown) {
-            Some(event) => event.settings(),
-            None => &[],
+        let Some(event) = event_of(self.view.session.world, shown) else {
+            return Ok(words);
         };
-        for setting in settings {
+        let label = self.view.text.label(shown.pid, event.choice());
+        if !label.is_empty() {
+            words.say_with("{}", &[Part::Bytes(label)])?;
+        }
+        for setting in event.settings() {
             words.say("")?;
             put_setting(&mut words, self.scope(shown.pid), setting)?;
         }
@@ -144,15 +147,7 @@ impl MermaidSheet<'_> {
             return Ok(());
         }
         self.say_note(notes, pid, pid)?;
-        let mut word = "";
-        for number in 0..parts.count() {
-            notes.add_with(
-                "{}{}",
-                &[Part::Text(word), Part::Bytes(parts.line(number).bytes)],
-            )?;
-            word = ", ";
-        }
-        Ok(())
+        put_joined(notes, parts, ", ")
     }
 
     // Adds the message that an event received from a process that is not shown.
@@ -199,7 +194,7 @@ impl MermaidSheet<'_> {
         for cut in cuts {
             if cut.is_prefix && size(&cut.cut, processes) == place {
                 self.say_wide_note(notes)?;
-                let name = Part::Name(cut.name);
+                let name = cut.name();
                 let word = Part::Text(if cut.halts { " halts here: " } else { ": " });
                 notes.add_with("{}{}", &[name, word])?;
                 let mut predicate = Notes::new(self.alloc);

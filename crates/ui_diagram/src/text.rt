@@ -129,7 +129,7 @@ impl TextSheet<'_> {
         let at = self.canvas.place(pid);
         let room = self.canvas.room(pid);
         row.fill(at, at.saturating_add(room), b'=');
-        let name = words(self.scene.alloc, "= {} ", &[Part::Name(cut.name)])?;
+        let name = words(self.scene.alloc, "= {} ", &[cut.name()])?;
         row.put_cut(at, bytes_of(&name), room);
         Ok(())
     }

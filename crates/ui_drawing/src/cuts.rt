@@ -109,7 +109,7 @@ impl SvgSheet<'_> {
         put_cut_class(notes, "cut", cut)?;
         notes.add(" points=\"")?;
         self.put_corners(notes, cut)?;
-        let name = Part::Name(cut.name);
+        let name = cut.name();
         notes.add_with("\"><title>the cut of {}</title></polyline>", &[name])
     }
 

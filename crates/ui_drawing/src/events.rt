@@ -9,23 +9,10 @@ use dbg_base::Pid;
 use event_rows::Event;
 use std::alloc::AllocError;
 use ui_text::{Notes, Part};
-use ui_timeline::{ShownEvent, bytes_of, event_of, halting, put_command, put_setting};
+use ui_timeline::{ShownEvent, bytes_of, event_of, halting, put_command, put_joined, put_setting};
 
 // The radius of the mark of an event.
 const RADIUS: i64 = 5;
-
-// Appends these parts to the last line, with commas between them.
-fn put_parts(notes: &mut Notes, parts: &Notes) -> Result<(), AllocError> {
-    let mut word = "";
-    for number in 0..parts.count() {
-        notes.add_with(
-            "{}{}",
-            &[Part::Text(word), Part::Bytes(parts.line(number).bytes)],
-        )?;
-        word = ", ";
-    }
-    Ok(())
-}
 
 impl SvgSheet<'_> {
     // What an event did: a line for each variable that it set, and for its message.
@@ -57,10 +44,9 @@ impl SvgSheet<'_> {
         title.say_with("event {} of {}", &[number, scope.name()])?;
         if let Some(event) = event_of(self.scene.view.session.world, shown) {
             title.add(": ")?;
-            put_parts(&mut title, &self.deeds(shown, event)?)?;
+            put_joined(&mut title, &self.deeds(shown, event)?, ", ")?;
             let choice = event.choice();
-            let number = Part::Natural(choice.0);
-            title.add_with("; command {}: ", &[number])?;
+            title.add_with("; command {}: ", &[scope.command(choice)])?;
             if let Some(command) = self.scene.view.session.program.command(shown.pid, choice) {
                 put_command(&mut title, scope, command)?;
             }

@@ -157,7 +157,8 @@ impl<'a> Scene<'a> {
         words.say_with("{}", &[Part::Natural(shown.number)])?;
         let mut room = LABEL;
         if let Some(event) = event_of(self.view.session.world, shown) {
-            words.add_with(":{}", &[Part::Natural(event.choice().0)])?;
+            let command = self.scope(shown.pid).command(event.choice());
+            words.add_with(":{}", &[command])?;
             let all = event.settings().len();
             let named = self.put_settings(&mut words, shown.pid, event, true, all)?;
             room = room.max(bytes_of(&words).len().saturating_add(3));
@@ -228,7 +229,7 @@ impl<'a> Scene<'a> {
         words.say("")?;
         let place = world.place(pid).saturating_add(n);
         if let Some(choice) = world.choice(pid, place) {
-            words.add_with("{}", &[Part::Natural(choice.0)])?;
+            words.add_with("{}", &[self.scope(pid).command(choice)])?;
         }
         let next = place.saturating_add(1);
         let left = world.line_len(pid).saturating_sub(next);
@@ -280,7 +281,7 @@ impl Scene<'_> {
     /// What a cut is, below a drawing: its breakpoint, and the events in it.
     pub(crate) fn cut_sentence(&self, cut: &NamedCut) -> Result<Vec<u8>, AllocError> {
         let mut line = Notes::new(self.alloc);
-        line.say_with("{}", &[Part::Name(cut.name)])?;
+        line.say_with("{}", &[cut.name()])?;
         if !cut.halts {
             line.add(": ")?;
             cut.put_predicate(&mut line)?;

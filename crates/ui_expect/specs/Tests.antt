@@ -1,12 +1,12 @@
 -- Sessions with expected replies.
-use Rattle.std.specs.Prelude.{ℕ, Bool, true, false, ◌+◌, ◌&&◌, List, [], ◌∷◌}
+use Rattle.std.specs.Prelude.{ℕ, Bool, true, false, ◌+◌, ◌&&◌, ◌||◌, List, [], ◌∷◌}
 use Rattle.std.specs.Str.{bytes_eq}
 use Rattle.ui_expect.specs.declared.comparing.PlayedLine.{PlayedLine}
 use Rattle.ui_expect.specs.declared.comparing.PlayedLine.TheVariants as line
 
--- the last reply to the line
+-- the last reply to the line, in one of its forms
 abbrev pub has_reply : PlayedLine → List ℕ → Bool
-has_reply (line.Answered reply) wanted = bytes_eq reply.items wanted
+has_reply (line.Answered reply) wanted = bytes_eq reply.shown.items wanted || bytes_eq reply.plain.items wanted
 has_reply before wanted = false
 
 -- Each line that expects a reply comes after the line that has it as its last reply, and only remarks are between the two. The first line

@@ -60,7 +60,7 @@ impl Explainer<Option<LineFault>> for Filler {
     fn explain(&mut self, line: &AnsweredLine<'_>, _notes: &mut Notes) -> Result<(), AllocError> {
         self.reply.clear();
         self.is_answered = true;
-        self.reply.extend_from_slice(line.reply)
+        self.reply.extend_from_slice(line.replies.shown)
     }
 }
 

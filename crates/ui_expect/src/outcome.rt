@@ -1,11 +1,10 @@
 //! What was said to a line, as a replay compares it.
 
-use dbg_base::{Choice, Done, Name, Pid, Said};
+use dbg_base::{Done, Name, Said};
 use dbg_command::SessionView;
 use event_rows::{Event, Exchange};
 use std::alloc::{AllocError, Global};
 use ui_repl::AnsweredLine;
-use ui_text::ProgramText;
 use ui_view::Told;
 
 /// What was said to a line that was played.
@@ -14,20 +13,12 @@ pub(crate) struct Outcome {
     /// The number of the line in the input, and the line as it was written.
     pub(crate) number: usize,
     pub(crate) line: Vec<u8>,
-    /// The reply. A command that has a label is named by it.
+    /// The reply, as it is shown.
     pub(crate) reply: Vec<u8>,
     /// The message that the event received, if it received one.
     pub(crate) message: Option<i64>,
     halted: Option<Name>,
     is_refused: bool,
-}
-
-// The event that an accepted command made or undid.
-fn event_of(done: &Done) -> Option<(Pid, Choice)> {
-    match done {
-        Done::Played(pid, choice) | Done::Undone(pid, choice) => Some((*pid, *choice)),
-        Done::Places(_) | Done::Plain => None,
-    }
 }
 
 // The message that was received by the event that an accepted command made.
@@ -41,38 +32,18 @@ fn message_of(view: SessionView<'_>, done: &Done) -> Option<i64> {
     }
 }
 
-// The reply to a command that made or undid this event, with its label.
-fn labelled(
-    alloc: Global,
-    text: &ProgramText,
-    pid: Pid,
-    label: &[u8],
-    halted: Option<Name>,
-) -> Result<Vec<u8>, AllocError> {
-    let mut reply = Vec::from_slice(alloc, b"ok ")?;
-    reply.extend_from_slice(text.written_name(pid))?;
-    reply.push(b' ')?;
-    reply.extend_from_slice(label)?;
-    if let Some(name) = halted {
-        reply.extend_from_slice(b" halted ")?;
-        reply.extend_from_slice(name.bytes())?;
-    }
-    Ok(reply)
-}
-
 impl Outcome {
-    /// What was said to this line of a session of this program.
+    /// What was said to this line of a session.
     pub(crate) fn new(
         alloc: Global,
         number: usize,
-        text: &ProgramText,
         line: &AnsweredLine<'_>,
     ) -> Result<Outcome, AllocError> {
         let told = line.told;
         let mut outcome = Outcome {
             number,
             line: Vec::from_slice(alloc, line.given.written)?,
-            reply: Vec::new(alloc),
+            reply: Vec::from_slice(alloc, line.replies.shown)?,
             message: None,
             halted: None,
             is_refused: matches!(told, Told::Refused(_) | Told::Said(_, Said::Refused(_), _)),
@@ -80,15 +51,7 @@ impl Outcome {
         if let Told::Said(_, Said::Accepted(accepted), _) = told {
             outcome.message = message_of(line.view, &accepted.done);
             outcome.halted = accepted.halted;
-            if let Some((pid, choice)) = event_of(&accepted.done) {
-                let label = text.label(pid, choice);
-                if !label.is_empty() {
-                    outcome.reply = labelled(alloc, text, pid, label, accepted.halted)?;
-                    return Ok(outcome);
-                }
-            }
         }
-        outcome.reply.extend_from_slice(line.reply)?;
         Ok(outcome)
     }
 

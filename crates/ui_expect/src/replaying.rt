@@ -43,7 +43,6 @@ pub struct ReplayNames<'a> {
 struct Replayer<'a> {
     alloc: Global,
     names: ReplayNames<'a>,
-    written: &'a WrittenProgram,
     // The number of the present line in the session, and the explanation of its reply.
     number: usize,
     explanation: LastExplanation<'a>,
@@ -59,7 +58,6 @@ impl Drop for Replayer<'_> {
         let Replayer {
             alloc: _,
             names: _,
-            written: _,
             number: _,
             explanation: _,
             outcomes: _,
@@ -108,7 +106,6 @@ impl<'a> Replayer<'a> {
         Replayer {
             alloc,
             names,
-            written,
             number,
             explanation: LastExplanation::new(alloc, written),
             outcomes: Vec::new(alloc),
@@ -204,8 +201,7 @@ impl Explainer<Option<LineFault>> for Replayer<'_> {
 
     fn explain(&mut self, line: &AnsweredLine<'_>, _notes: &mut Notes) -> Result<(), AllocError> {
         self.explanation.explain(line)?;
-        let text = self.written.text();
-        let now = Outcome::new(self.alloc, self.number, text, line)?;
+        let now = Outcome::new(self.alloc, self.number, line)?;
         if self.report.is_none() {
             self.report = self.compare(&now)?;
         }

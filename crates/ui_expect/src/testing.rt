@@ -2,7 +2,7 @@
 
 ghost use Rattle.shell_serve.specs.Spans.{EndsWith};
 
-use crate::comparing::{PlayedLine, compare};
+use crate::comparing::{PlayedLine, ReplyForms, compare, is_reply_to};
 use crate::explanation::LastExplanation;
 use crate::reports::{begin_refusal, begin_report, put_replies, tell_long_session};
 use dbg_base::Call;
@@ -14,7 +14,7 @@ use ui_repl::{
     AnsweredLine, ExpandedLine, LineFault, LineWords, OpenSession, Opening, PlayedSession,
     WrittenProgram, open, wanted, write_notes, write_text,
 };
-use ui_session::{Room, Typed};
+use ui_session::{Room, Typed, plain_text};
 use ui_text::{Notes, Part};
 use ui_view::{Echo, Explainer};
 
@@ -34,7 +34,14 @@ pub enum Tested {
 struct AskedLine {
     number: usize,
     text: Vec<u8>,
-    reply: Option<Vec<u8>>,
+    reply: Option<LastReply>,
+}
+
+// The last reply to a line, as it is shown and as a run writes it.
+#[derive(Drop)]
+struct LastReply {
+    shown: Vec<u8>,
+    plain: Vec<u8>,
 }
 
 // Compares the replies of a session with the expected ones, line by line.
@@ -42,6 +49,8 @@ struct Tester<'a> {
     explanation: LastExplanation<'a>,
     alloc: Global,
     name: &'a str,
+    // Whether the session is in the model notation.
+    is_model: bool,
     // The number of the present line in the input.
     number: usize,
     asked: AskedLine,
@@ -56,6 +65,7 @@ impl Drop for Tester<'_> {
             explanation: _,
             alloc: _,
             name: _,
+            is_model: _,
             number: _,
             asked: _,
             lines: _,
@@ -71,6 +81,7 @@ impl<'a> Tester<'a> {
             explanation: LastExplanation::new(alloc, written),
             alloc,
             name,
+            is_model: written.text().is_model(),
             number,
             asked: AskedLine {
                 number,
@@ -101,6 +112,23 @@ impl<'a> Tester<'a> {
         Ok(notes)
     }
 
+    // A reply with plain names, if the session is in the model notation.
+    fn plain(&self, reply: &[u8]) -> Result<Vec<u8>, AllocError> {
+        if self.is_model {
+            plain_text(self.alloc, reply)
+        } else {
+            Vec::from_slice(self.alloc, reply)
+        }
+    }
+
+    // The forms of a reply, with plain names.
+    fn forms(&self, reply: &LastReply) -> Result<ReplyForms, AllocError> {
+        Ok(ReplyForms {
+            shown: self.plain(reply.shown.as_slice())?,
+            plain: Vec::from_slice(self.alloc, reply.plain.as_slice())?,
+        })
+    }
+
     // Keeps the first report.
     fn report(&mut self, report: Notes) {
         if self.report.is_none() {
@@ -112,18 +140,19 @@ impl<'a> Tester<'a> {
     fn expect(&mut self, line: &[u8], wanted: &[u8]) -> Result<(), AllocError> {
         match self.asked.reply.take() {
             Some(reply) => {
-                if reply.as_slice() != wanted {
-                    let report = self.tell_difference(wanted, reply.as_slice())?;
+                let before = PlayedLine::Answered(self.forms(&reply)?);
+                if !is_reply_to(&before, self.plain(wanted)?.as_slice()) {
+                    let report = self.tell_difference(wanted, reply.shown.as_slice())?;
                     self.report(report);
                 }
-                self.lines.push(PlayedLine::Answered(reply))?;
+                self.lines.push(before)?;
             }
             None => {
                 let report = self.tell_misplaced(line)?;
                 self.report(report);
             }
         }
-        let wanted = Vec::from_slice(self.alloc, wanted)?;
+        let wanted = self.plain(wanted)?;
         Ok(self.lines.push(PlayedLine::Expected(wanted))?)
     }
 
@@ -180,7 +209,10 @@ impl Explainer<Option<LineFault>> for Tester<'_> {
     }
 
     fn explain(&mut self, line: &AnsweredLine<'_>, _notes: &mut Notes) -> Result<(), AllocError> {
-        self.asked.reply = Some(Vec::from_slice(self.alloc, line.reply)?);
+        self.asked.reply = Some(LastReply {
+            shown: Vec::from_slice(self.alloc, line.replies.shown)?,
+            plain: Vec::from_slice(self.alloc, line.replies.plain)?,
+        });
         self.explanation.explain(line)
     }
 }
@@ -212,8 +244,9 @@ fn test_open<'a, R: Source + Typed>(
 }
 
 /// Plays the session of this name, which may be in the model notation. Writes a report: how many replies were compared, or the first that
-/// was not the expected one, with its explanation. A line `> REPLY` gives the expected reply to the command line before it; between the two
-/// there are only comments and blank lines. A program that is refused, and input that is too long, are reported as an interactive session
+/// was not the expected one, with its explanation. A line `> REPLY` gives the expected reply to the command line before it, in a model with
+/// the names and labels of its author or as a run writes it; between the two there are only comments and blank lines. A program that is
+/// refused, and input that is too long, are reported as an interactive session
 /// reports them.
 pub fn test_session<R: Source + Typed, W: Sink>(
     alloc: Global,

@@ -52,12 +52,12 @@ impl ExplainedSession<'_> {
         };
         notes.say_with(
             "the breakpoint {} halts the session: `pass` ",
-            &[Part::Name(name)],
+            &[self.view.breakpoint(name)],
         )?;
         match self.view.next_halting(notes.alloc(), name)? {
             Some(next) => notes.add_with(
                 "disarms it, and then the breakpoint {} does",
-                &[Part::Name(next)],
+                &[self.view.breakpoint(next)],
             )?,
             None => notes.add("lets it continue")?,
         }

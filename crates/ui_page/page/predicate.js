@@ -18,7 +18,7 @@ function binary(operator, one, other) {
 }
 // The part as a function of a local state, which has a value for each variable and two counts for each other process.
 function readPart(text) {
-  const tokens = text.match(/\w+|[!<>]=|[^\s\w]/g) || [];
+  const tokens = text.match(/\w+(?:\[\d+\])*|[!<>]=|[^\s\w]/g) || [];
   let at = 0;
   function countOf(way) {
     const other = processes.findIndex(({name}) => name === tokens[at + 1]);

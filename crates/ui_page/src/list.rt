@@ -4,6 +4,8 @@ use dbg_base::Name;
 use itoa::Buffer;
 use serde_json::Value;
 use std::alloc::{AllocError, Global};
+use ui_text::Notes;
+use ui_view::SourceView;
 
 /// The items of a list.
 #[derive(Drop)]
@@ -95,10 +97,17 @@ impl List {
         self.text(buffer.format(value).as_bytes())
     }
 
-    pub(crate) fn name(&mut self, name: Option<Name>) -> Result<(), AllocError> {
-        match name {
-            Some(name) => self.text(name.bytes()),
-            None => self.push(Value::Null),
-        }
+    /// The name of a breakpoint as its author wrote it, or none.
+    pub(crate) fn breakpoint(
+        &mut self,
+        view: SourceView<'_>,
+        name: Option<Name>,
+    ) -> Result<(), AllocError> {
+        let Some(name) = name else {
+            return self.push(Value::Null);
+        };
+        let mut words = Notes::new(self.alloc);
+        words.say_with("{}", &[view.breakpoint(name)])?;
+        self.text(words.line(0).bytes)
     }
 }

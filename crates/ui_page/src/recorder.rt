@@ -110,10 +110,15 @@ impl List {
     }
 
     // The variables of a process with their values at the start.
-    fn variables(&mut self, program: &Program, pid: Pid) -> Result<(), AllocError> {
+    fn variables(
+        &mut self,
+        program: &Program,
+        text: &ProgramText,
+        pid: Pid,
+    ) -> Result<(), AllocError> {
         for variable in 0..program.variables(pid) {
             let mut start = self.another();
-            start.name(program.variable_name(pid, variable))?;
+            start.text(text.variable_name(pid, variable))?;
             start.value(program.start_value(pid, variable).unwrap_or(0))?;
             self.list(start)?;
         }
@@ -128,12 +133,9 @@ fn process_value(
     text: &ProgramText,
     pid: Pid,
 ) -> Result<Value, AllocError> {
-    let name = match program.process_name(pid) {
-        Some(name) => text_value(alloc, name.bytes())?,
-        None => Value::Null,
-    };
+    let name = text_value(alloc, text.process_name(pid))?;
     let mut variables = List::new(alloc);
-    variables.variables(program, pid)?;
+    variables.variables(program, text, pid)?;
     let mut commands = List::new(alloc);
     commands.commands(program, text, pid)?;
     let mut members = Map::new(alloc);

@@ -55,7 +55,7 @@ impl<N> Explainer<N> for Drawer<'_> {
         match self {
             Drawer::State(artist) => artist.look(notes.alloc(), line.view, line.told),
             Drawer::Page(recorder) => {
-                recorder.end_line(line.view, line.told, line.reply);
+                recorder.end_line(line.view, line.told, line.replies.shown);
                 Ok(())
             }
         }

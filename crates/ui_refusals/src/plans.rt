@@ -5,12 +5,17 @@ use dbg_base::{Name, Pid, Plan};
 use std::alloc::AllocError;
 use ui_text::{Notes, Part};
 
-// Appends a command that names a breakpoint to the last line.
-fn put_of_breakpoint(notes: &mut Notes, word: &'static str, name: Name) -> Result<(), AllocError> {
-    notes.add_with("{} {}", &[Part::Text(word), Part::Name(name)])
-}
-
 impl RefusingSession<'_> {
+    // Appends a command that names a breakpoint to the last line.
+    fn put_of_breakpoint(
+        &self,
+        notes: &mut Notes,
+        word: &'static str,
+        name: Name,
+    ) -> Result<(), AllocError> {
+        notes.add_with("{} {}", &[Part::Text(word), self.view.breakpoint(name)])
+    }
+
     // Appends a command that names a process to the last line.
     fn put_of_process(
         &self,
@@ -36,11 +41,11 @@ impl RefusingSession<'_> {
             Plan::Rollback(pid, count) => {
                 self.put_of_process(notes, "rollback", *pid, Some(*count))
             }
-            Plan::Goto(name) => put_of_breakpoint(notes, "goto", *name),
-            Plan::Break(name, _) => put_of_breakpoint(notes, "break", *name),
-            Plan::Clear(name) => put_of_breakpoint(notes, "clear", *name),
-            Plan::Arm(name) => put_of_breakpoint(notes, "arm", *name),
-            Plan::Pass(name) => put_of_breakpoint(notes, "pass", *name),
+            Plan::Goto(name) => self.put_of_breakpoint(notes, "goto", *name),
+            Plan::Break(name, _) => self.put_of_breakpoint(notes, "break", *name),
+            Plan::Clear(name) => self.put_of_breakpoint(notes, "clear", *name),
+            Plan::Arm(name) => self.put_of_breakpoint(notes, "arm", *name),
+            Plan::Pass(name) => self.put_of_breakpoint(notes, "pass", *name),
             Plan::Batch(_) => notes.add("batch"),
         }
     }

@@ -86,7 +86,7 @@ impl RefusingSession<'_> {
         };
         notes.say("")?;
         for (name, _) in marks.items() {
-            notes.add_with("{}{}", &[Part::Text(word), Part::Name(*name)])?;
+            notes.add_with("{}{}", &[Part::Text(word), self.view.breakpoint(*name)])?;
             word = ", ";
         }
         Ok(())
@@ -137,7 +137,9 @@ impl RefusingSession<'_> {
         match refusal {
             Refusal::UnknownBreak => self.tell_breakpoints(notes),
             Refusal::BreakTaken | Refusal::NoCut => self.view.tell_breakpoint(notes, name),
-            Refusal::NotArmed => Ok(notes.say_with("`arm {}` arms it", &[Part::Name(name)])?),
+            Refusal::NotArmed => {
+                Ok(notes.say_with("`arm {}` arms it", &[self.view.breakpoint(name)])?)
+            }
             Refusal::AlreadyArmed if self.view.cut_of(name).is_some() => {
                 self.view.tell_continuing(notes, name)
             }

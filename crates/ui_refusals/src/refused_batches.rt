@@ -94,7 +94,7 @@ impl RefusingSession<'_> {
         notes.say("")?;
         for (name, is_armed) in marks.items() {
             if is_armed_after(plans, *name, *is_armed) {
-                notes.add_with("{}{}", &[Part::Text(word), Part::Name(*name)])?;
+                notes.add_with("{}{}", &[Part::Text(word), self.view.breakpoint(*name)])?;
                 word = " or ";
             }
         }
@@ -102,7 +102,7 @@ impl RefusingSession<'_> {
             let later = plans.get(at.saturating_add(1)..).unwrap_or(&[]);
             match plan {
                 Plan::Break(name, _) if self.is_new_after(*name, later) => {
-                    notes.add_with("{}{}", &[Part::Text(word), Part::Name(*name)])?;
+                    notes.add_with("{}{}", &[Part::Text(word), self.view.breakpoint(*name)])?;
                     word = " or ";
                 }
                 _ => {}

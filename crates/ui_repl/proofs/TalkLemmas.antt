@@ -1,5 +1,5 @@
 -- What an interactive session writes.
-use Rattle.std.proofs.Common.{◌≡◌, ◌≢◌, ℕ, List, [], ◌++◌, Result, Ok, Err, refl, sym, subst, inl, inr}
+use Rattle.std.proofs.Common.{◌≡◌, ◌≢◌, ℕ, Bool, List, [], ◌++◌, Result, Ok, Err, refl, sym, subst, inl, inr}
 use Rattle.std.specs.Prelude.{◌⊎◌, IfOk, IsErrAnd}
 use Rattle.shell_io.specs.Seen.{Seen, Appended}
 use Rattle.shell_io.proofs.AppendLemmas.{appended_none}
@@ -18,7 +18,8 @@ use Rattle.shell_serve.specs.declared.framing.Next.TheVariants.{TooLong}
 use Rattle.shell_serve.specs.Sources.{Given}
 use Rattle.shell_serve.specs.Sessions.{SaysAll, WritesForm, Plays}
 use Rattle.ui_session.specs.Dialogues.{interactive, IsExplanation}
-use Rattle.ui_repl.specs.Talks.{IsFaultText, IsRefusal, IsSession, IsTalk, Talks}
+use Rattle.ui_session.specs.Named.{showing}
+use Rattle.ui_repl.specs.Talks.{IsFaultText, IsReadAs, IsRefusal, IsSession, IsTalk, Talks}
 
 -- nothing was written before memory ran out
 pub memory_talks : (a : Seen) → Talks a (Err Memory) a
@@ -31,30 +32,42 @@ unopened_talks Write a b other same = absurd (other refl)
 unopened_talks Memory a b other same = subst (λ (s : Seen). Appended a s []) (sym same) (appended_none a)
 
 -- the output of a session of this program
-session_of : (P : Program) (lines : List Given) (end due : List ℕ) → end ≡ due → (out : List ℕ) → SaysAll interactive P lines end out
-    → IsSession due out
-session_of P lines end due is out says = (P, lines, subst (λ (e : List ℕ). SaysAll interactive P lines e out) is says)
+session_of : (text : List ℕ) (is_model : Bool) (P : Program) → IsReadAs text is_model P → (lines : List Given) (end due : List ℕ)
+    → end ≡ due → (out : List ℕ) → SaysAll interactive (showing is_model) P lines end out → IsSession due out
+session_of text is_model P read lines end due is out says =
+    (text, is_model, P, read, lines, subst (λ (e : List ℕ). SaysAll interactive (showing is_model) P lines e out) is says)
 
-pub session_talks : {S R : Type 0} {Gives : S → R → Given → S → R → Type 0} {Stops : S → R → Result Next ServeFault → S → R → Type 0}
-    {s t : S} {r u : R} {result : Result Served ServeFault} {a b : Seen} (P : Program)
-    → Plays Gives Stops interactive P s r a result t u b → Talks a result b
-session_talks {result = Ok outcomes.Done} P plays =
-    (plays.writes.0, session_of P plays.lines plays.end [] plays.ends.0 plays.writes.0 plays.writes.1, plays.writes.2)
-session_talks {result = Ok outcomes.TooLong} P plays = (
+session_talks : {S R : Type 0} {Gives : S → R → Given → S → R → Type 0} {Stops : S → R → Result Next ServeFault → S → R → Type 0}
+    {s t : S} {r u : R} {result : Result Served ServeFault} {a b : Seen} (text : List ℕ) (is_model : Bool) (P : Program)
+    → IsReadAs text is_model P → Plays Gives Stops interactive (showing is_model) P s r a result t u b → Talks a result b
+session_talks {result = Ok outcomes.Done} text is_model P read plays =
+    (plays.writes.0, session_of text is_model P read plays.lines plays.end [] plays.ends.0 plays.writes.0 plays.writes.1, plays.writes.2)
+session_talks {result = Ok outcomes.TooLong} text is_model P read plays = (
   plays.writes.0,
-  inl (session_of P plays.lines plays.end too_long_text plays.ends.0 plays.writes.0 plays.writes.1),
+  inl (session_of text is_model P read plays.lines plays.end too_long_text plays.ends.0 plays.writes.0 plays.writes.1),
   plays.writes.2,
 )
-session_talks {result = Ok outcomes.Refused} P plays = absurd plays.ends
-session_talks {result = Err Read} P plays =
-    (plays.writes.0, inl (session_of P plays.lines plays.end [] plays.ends.0 plays.writes.0 plays.writes.1), plays.writes.2)
-session_talks {Stops = Stops} {t = t} {u = u} {result = Err Write} P plays = (plays.writes.0, by plays.ends, plays.writes.2)
+session_talks {result = Ok outcomes.Refused} text is_model P read plays = absurd plays.ends
+session_talks {result = Err Read} text is_model P read plays = (
+  plays.writes.0,
+  inl (session_of text is_model P read plays.lines plays.end [] plays.ends.0 plays.writes.0 plays.writes.1),
+  plays.writes.2,
+)
+session_talks {Stops = Stops} {t = t} {u = u} {result = Err Write} text is_model P read plays =
+    (plays.writes.0, by plays.ends, plays.writes.2)
   where
     by : ((plays.end ≡ []) × ((t ≡ plays.at) × (u ≡ plays.reader))) ⊎ ((plays.end ≡ too_long_text) × Stops plays.at plays.reader (Ok TooLong) t u)
         → IsTalk (Err Write) plays.writes.0
-    by (inl ends) = inl (session_of P plays.lines plays.end [] ends.0 plays.writes.0 plays.writes.1)
-    by (inr ends) = inr (inl (session_of P plays.lines plays.end too_long_text ends.0 plays.writes.0 plays.writes.1))
-session_talks {result = Err Memory} P plays = plays.writes
+    by (inl ends) = inl (session_of text is_model P read plays.lines plays.end [] ends.0 plays.writes.0 plays.writes.1)
+    by (inr ends) = inr (inl (session_of text is_model P read plays.lines plays.end too_long_text ends.0 plays.writes.0 plays.writes.1))
+session_talks {result = Err Memory} text is_model P read plays = plays.writes
+
+-- the same, of which it is known whether the program is in the notation
+pub model_talks : {S R : Type 0} {Gives : S → R → Given → S → R → Type 0} {Stops : S → R → Result Next ServeFault → S → R → Type 0}
+    {s t : S} {r u : R} {result : Result Served ServeFault} {a b : Seen} (text : List ℕ) (is_model own : Bool) (P : Program)
+    → IsReadAs text is_model P → own ≡ is_model → Plays Gives Stops interactive (showing own) P s r a result t u b → Talks a result b
+model_talks text is_model own P read same plays =
+    session_talks text own P (subst (λ (m : Bool). IsReadAs text m P) (sym same) read) plays
 
 -- the report that a program text is too long
 pub too_long_talks : {r : Result Served ServeFault} {a b : Seen} → Writes a b r too_long_text → IfOk r (λ served. served ≡ outcomes.TooLong)

@@ -1,7 +1,8 @@
 -- What an interactive session writes.
-use Rattle.std.specs.Prelude.{◌≡◌, ◌⊎◌, ℕ, List, [], ◌++◌, Result, Ok, Err}
+use Rattle.std.specs.Prelude.{◌≡◌, ◌⊎◌, ℕ, Bool, true, false, List, [], ◌++◌, Result, Ok, Err, is_some}
 use Rattle.shell_io.specs.Seen.{Seen}
 use Rattle.shell_io.specs.declared.health.Health.TheVariants.{Fine}
+use Rattle.dbg_base.specs.Checks.{Reads}
 use Rattle.dbg_base.specs.Trees.{Program}
 use Rattle.dbg_base.specs.declared.fault.ProgFault.{ProgFault}
 use Rattle.dbg_base.specs.Shell.{fault_text, no_end_line_text, too_long_text}
@@ -13,8 +14,15 @@ use Rattle.shell_print.specs.declared.outcome.ServeFault.TheVariants.{Read, Writ
 use Rattle.shell_serve.specs.declared.framing.Input.{Input}
 use Rattle.shell_serve.specs.Sources.{Given}
 use Rattle.shell_serve.specs.Sessions.{SaysAll, WritesBy}
+use Rattle.proc_tree.specs.Programs.{program_of}
+use Rattle.notation_tree.specs.declared.model.ParsedModel.{ParsedModel}
+use Rattle.notation_meaning.specs.ModelPrograms.{ProgramOf}
 use Rattle.ui_session.specs.Dialogues.{interactive, IsExplanation}
+use Rattle.ui_session.specs.Named.{showing}
+use Rattle.ui_repl.specs.declared.written_program.WrittenProgram.{WrittenProgram}
 use Rattle.ui_repl.specs.declared.opening.Opening.{Opening}
+use Rattle.ui_repl.specs.declared.written_program.ReadText.{ReadText}
+use Rattle.ui_repl.specs.declared.written_program.ReadText.TheVariants as texts
 use Rattle.ui_repl.specs.declared.opening.Opening.TheVariants.{Session, Refused}
 
 -- a program is refused
@@ -25,9 +33,21 @@ IsFaultText due = (due ≡ no_end_line_text) ⊎ ((fault : ProgFault) × (due �
 abbrev pub IsRefusal : List ℕ → Type 0
 IsRefusal out = (due reported : List ℕ) × IsFaultText due × IsExplanation reported × (out ≡ due ++ reported)
 
--- the output of a session of some program for some lines, and then this text
+-- The program that a text is read as: a text of the process language, or one in the model notation, which is read as a tree.
+abbrev pub IsReadAs : List ℕ → Bool → Program → Type 0
+IsReadAs text false P = Reads text P
+IsReadAs text true P = (tree : ParsedModel) × ProgramOf tree P
+
+-- a session whose program is in the model notation, or is not, is one of such a program
+abbrev pub IsProgramOf : WrittenProgram → Program → Type 0
+IsProgramOf written P = (text : List ℕ) × IsReadAs text (is_some written.expansion) P
+
+-- The output of a session of the program of some text for some lines, and then this text. The replies of one in the model notation are
+-- shown with the names that its author gave.
 abbrev pub IsSession : List ℕ → List ℕ → Type 0
-IsSession end out = (P : Program) × (lines : List Given) × SaysAll interactive P lines end out
+IsSession end out =
+    (text : List ℕ) × (is_model : Bool) × (P : Program) × IsReadAs text is_model P × (lines : List Given)
+    × SaysAll interactive (showing is_model) P lines end out
 
 -- the output that is due if an interactive session ends so: that of a session, or what is written if none begins
 abbrev pub IsTalk : Result Served ServeFault → List ℕ → Type 0
@@ -44,5 +64,11 @@ Talks old result new = WritesBy old new result (IsTalk result)
 
 -- A session was opened with such an input, and nothing was written; or a refusal was reported, or not in full, and the reader did not fail.
 abbrev pub Opens : (Input → Type 0) → Seen → Opening → Seen → Type 0
-Opens IsInput old (Session written session) new = IsInput session.input × (new ≡ old)
+Opens IsInput old (Session written session) new =
+    IsInput session.input × (new ≡ old) × IsProgramOf written (program_of session.program)
 Opens IsInput old (Refused told) new = Talks old told new × (source_after told ≡ Fine)
+
+-- what a text was read as: a program, or none
+abbrev pub IsText : ReadText → Type 0
+IsText (texts.Program written program) = IsProgramOf written (program_of program)
+IsText (texts.Wrong fault) = Unit {0}

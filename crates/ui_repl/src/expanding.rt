@@ -3,14 +3,15 @@
 ghost use Rattle.shell_serve.specs.Spans.{EndsWith};
 
 use crate::opening::OpenSession;
-use crate::read_line::{ExpandedLine, LineFault};
+use crate::read_line::{AnsweredLine, ExpandedLine, LineFault};
+use crate::words::wanted;
 use crate::written_program::{ReadText, WrittenProgram, read_text};
 use notation::{Fault, message};
 use shell_io::{Sink, Source};
 use shell_print::{ServeFault, Served, hand_on, tell_too_long, write_whole};
 use shell_serve::{Input, TextEnd, read_program_text, text_alone};
 use std::alloc::{AllocError, Global};
-use ui_session::Typed;
+use ui_session::{Typed, plain_text};
 use ui_text::{Notes, Part};
 use ui_view::{Echo, Explainer};
 
@@ -60,6 +61,9 @@ pub(crate) fn write_fault<W: Sink>(
 struct Expander {
     text: Vec<u8>,
     is_model: bool,
+    // The last reply, as it is shown with plain names, and as a run writes it.
+    shown: Vec<u8>,
+    plain: Vec<u8>,
     // How many lines were read.
     count: usize,
     fault: Option<Notes>,
@@ -76,14 +80,46 @@ impl Expander {
             self.fault = Some(fault_notes(alloc, self.count, played, &fault.fault)?);
         }
         let is_comment = played.trim_ascii_start().first() == Some(&b'#');
-        if !(self.is_model && is_comment) {
+        if self.is_model && is_comment {
+            return Ok(self.text.push(b'\n')?);
+        }
+        if self.expects_shown(played)? {
+            self.text.extend_from_slice(b"> ")?;
+            self.text.extend_from_slice(self.plain.as_slice())?;
+        } else {
             self.text.extend_from_slice(played)?;
         }
         Ok(self.text.push(b'\n')?)
     }
+
+    // Whether a line of a model expects the last reply, and has not the form in which a run writes it.
+    fn expects_shown(&self, line: &[u8]) -> Result<bool, AllocError> {
+        match wanted(line) {
+            Some(wanted)
+                if self.is_model && !wanted.is_empty() && wanted != self.plain.as_slice() => {
+                let wanted = plain_text(*self.text.allocator(), wanted)?;
+                let wanted = wanted.as_slice();
+                Ok(wanted == self.shown.as_slice() || wanted == self.plain.as_slice())
+            }
+            _ => Ok(false),
+        }
+    }
 }
 
 impl Explainer<Option<LineFault>> for Expander {
+    fn keeps_replies(&self) -> bool {
+        self.is_model
+    }
+
+    fn explain(&mut self, line: &AnsweredLine<'_>, _notes: &mut Notes) -> Result<(), AllocError> {
+        if self.is_model {
+            self.shown = plain_text(*self.text.allocator(), line.replies.shown)?;
+            self.plain.clear();
+            self.plain.extend_from_slice(line.replies.plain)?;
+        }
+        Ok(())
+    }
+
     fn hear(&mut self, line: &ExpandedLine<'_>) -> Result<Echo, AllocError> {
         self.put(line)?;
         if line.is_first {
@@ -121,6 +157,8 @@ fn expand_lines<R: Source + Typed, W: Sink, E: Sink>(
     let expander = Expander {
         text: plain_program(alloc, written, &session)?,
         is_model: written.expansion().is_some(),
+        shown: Vec::new(alloc),
+        plain: Vec::new(alloc),
         count: session.lines(),
         fault: None,
     };

@@ -22,10 +22,10 @@ fn put_process(
         notes.say_with(
             "{}\t{}\t{}\t{}\t{}",
             &[
-                Part::Bytes(text.process_name(pid)),
+                Part::Bytes(text.plain_name(pid)),
                 Part::Natural(number),
                 Part::Count(text.place(pid, choice).unwrap_or(0)),
-                Part::Bytes(text.written_name(pid)),
+                Part::Bytes(text.process_name(pid)),
                 Part::Bytes(text.label(pid, choice)),
             ],
         )?;

@@ -69,11 +69,13 @@ impl OpenSession {
         let count = self.lines();
         let OpenSession { program, input } = self;
         let mut lines = SessionLines::new(alloc, input, written, count, wanted)?;
-        let mut dialogue = Dialogue::new(alloc, explainer);
+        let form = written.replies();
+        let mut dialogue = Dialogue::new(alloc, form, explainer);
         let mut unheard = Noted::new(Room::Nothing);
         let served = play(
             alloc,
             &mut dialogue,
+            &form,
             program,
             &mut lines,
             reader,

@@ -4,7 +4,8 @@ ghost use Rattle.std.specs.Prelude.{◌≡◌};
 ghost use Rattle.shell_io.specs.declared.health.Health.TheVariants.{Fine};
 ghost use Rattle.shell_print.specs.Outcomes.{source_after, sink_after};
 ghost use Rattle.shell_serve.specs.Spans.{EndsWith};
-ghost use Rattle.ui_repl.specs.Talks.{Talks};
+ghost use Rattle.proc_tree.specs.Programs.{program_of};
+ghost use Rattle.ui_repl.specs.Talks.{IsProgramOf, Talks};
 
 use crate::fault_places::refuse;
 use crate::opening::{OpenSession, Opening, open};
@@ -42,7 +43,8 @@ fn talk_open<R: Source + Typed, W: Sink>(
     reader: &mut R,
     writer: &mut W,
 ) -> Result<Served, ServeFault>
-    requires { EndsWith session.input.ended (R.remaining reader.old) }
+    requires ends { EndsWith session.input.ended (R.remaining reader.old) }
+    requires program { IsProgramOf written.now (program_of session.program) }
     ensures talks { Talks (W.seen writer.old) result (W.seen writer.new) }
     ensures reader { R.health reader.old ≡ Fine → R.health reader.new ≡ source_after result }
     ensures writer { (W.seen writer.old).health ≡ Fine → (W.seen writer.new).health ≡ sink_after result }
@@ -52,15 +54,25 @@ fn talk_open<R: Source + Typed, W: Sink>(
     let Ok(mut lines) = SessionLines::new(alloc, input, written, count, None) else {
         return Err(ServeFault::Memory);
     };
-    let mut dialogue = Dialogue::new(alloc, Sentences::new(alloc, written, width));
-    play(alloc, &mut dialogue, program, &mut lines, reader, writer)
+    let form = written.replies();
+    let mut dialogue = Dialogue::new(alloc, form, Sentences::new(alloc, written, width));
+    play(
+        alloc,
+        &mut dialogue,
+        &form,
+        program,
+        &mut lines,
+        reader,
+        writer,
+    )
 }
 
 /// An interactive session. Reads a program text up to a line `%%`, which may be in the model notation. Then answers each line after it up to
-/// `quit`: it is made plain, and played as `play` of `shell_serve` does. A command line has the reply that a run gives to it; without a seat
-/// it is one of seat 1. Directives (`help`, `on`, `state`, `line P`, `draw`, `quit`, comments) make no call. A line that was not typed is
-/// written before its reply. Lines after the reply, which begin with two blanks, explain what the command did, or why the line is refused
-/// and what the person can do. A text that is not a program is refused, with an explanation. Pictures are so many characters wide.
+/// `quit`: it is made plain, and played as `play` of `shell_serve` does. A command line has the reply that a run gives to it, in a model with
+/// the author's names and labels; without a seat it is one of seat 1. Directives (`help`, `on`, `state`, `line P`, `draw`, `quit`, comments)
+/// make no call. A line that was not typed is written before its reply. Lines after the reply, which begin with two blanks, explain what the
+/// command did, or why the line is refused and what the person can do. A text that is not a program is refused, with an explanation. Pictures
+/// are so many characters wide.
 #[tactic(auto, using(crate::proofs::TalkLemmas::unopened_talks, crate::proofs::TalkLemmas::talks_report))]
 pub fn talk<R: Source + Typed, W: Sink>(
     alloc: Global,

@@ -1,6 +1,7 @@
 //! Programs as their authors write them.
 
-ghost use Rattle.std.specs.Prelude.{◌≡◌, IfErr};
+ghost use Rattle.std.specs.Prelude.{◌≡◌, IfOk, IfErr, is_some};
+ghost use Rattle.ui_repl.specs.Talks.{IsText};
 ghost use Rattle.shell_print.specs.declared.outcome.ServeFault.TheVariants.{Memory};
 
 use crate::fault_places::FaultPlace;
@@ -13,6 +14,7 @@ use proc_tree::Program;
 use shell_parse::next_word;
 use shell_print::ServeFault;
 use std::alloc::{AllocError, Global};
+use ui_session::NamedReplies;
 use ui_text::{DeclaredAs, Notes, Part, ProgramText, command_offsets, find_declaration};
 
 /// The text of a program as its author wrote it, and its expansion if it is in the notation.
@@ -46,7 +48,7 @@ fn text_of(
     expansion: Option<&Expansion>,
     program: &Program,
 ) -> Result<ProgramText, AllocError> {
-    let mut written = ProgramText::new(alloc, text)?;
+    let mut written = ProgramText::new(alloc, text, expansion.is_some())?;
     let offsets = command_offsets(alloc, text)?;
     let mut plain = offsets.iter().copied();
     for p in 0..program.processes() {
@@ -61,7 +63,9 @@ fn text_of(
             .map_or(name_bytes(&plain_name), |name| name.as_slice());
         written.add_process(alloc, name_bytes(&plain_name), name)?;
         for variable in 0..program.variables(pid) {
-            written.add_variable(alloc, name_bytes(&program.variable_name(pid, variable)))?;
+            let plain_name = program.variable_name(pid, variable);
+            let name = expansion.and_then(|expansion| expansion.variable_name(pid, variable));
+            written.add_variable(alloc, name.unwrap_or(name_bytes(&plain_name)))?;
         }
         for number in 0..program.commands(pid) {
             let plain_at = plain.next().unwrap_or(0);
@@ -75,7 +79,8 @@ fn text_of(
 
 /// Reads a program text. A program of the process language is never expanded.
 pub fn read_text(alloc: Global, text: &[u8]) -> Result<ReadText, ServeFault>
-    ensures { IfErr result (λ fault. fault ≡ Memory) }
+    ensures text { IfOk result IsText }
+    ensures fault { IfErr result (λ fault. fault ≡ Memory) }
 {
     match parse_program(alloc, text) {
         Ok(program) => {
@@ -118,6 +123,16 @@ impl WrittenProgram {
     /// The expansion, if the program is in the notation.
     pub(crate) fn expansion(&self) -> Option<&Expansion> {
         self.expansion.as_ref()
+    }
+
+    /// How the replies of a session of this program are shown.
+    pub fn replies(&self) -> NamedReplies<'_>
+        ensures { is_some result.text ≡ is_some self.now.expansion }
+    {
+        match &self.expansion {
+            Some(_) => NamedReplies::of(Some(&self.text)),
+            None => NamedReplies::of(None),
+        }
     }
 
     /// The text, with the places of the commands.
@@ -176,9 +191,6 @@ impl WrittenProgram {
         program: &Program,
         pid: Pid,
     ) -> Result<(), AllocError> {
-        let Some(name) = program.process_name(pid) else {
-            return Ok(());
-        };
         let mut is_begun = false;
         for number in 0..program.commands(pid) {
             let label = self.text.label(pid, Choice(number));
@@ -188,7 +200,7 @@ impl WrittenProgram {
             if is_begun {
                 notes.add(", ")?;
             } else {
-                let name = Part::Name(name);
+                let name = Part::Bytes(self.text.process_name(pid));
                 notes.say_with("the labels of {} are ", &[name])?;
             }
             notes.add_with("{}", &[Part::Bytes(label)])?;

@@ -1,5 +1,5 @@
 -- The output of an interactive session besides the replies.
-use Rattle.std.proofs.Common.{◌≡◌, ℕ, true, List, [], ◌∷◌, ◌++◌, refl, sym, ap, ◌∙◌, inl, inr}
+use Rattle.std.proofs.Common.{◌≡◌, ℕ, Bool, true, false, List, [], ◌∷◌, ◌++◌, refl, sym, ap, ◌∙◌, inl, inr}
 use Rattle.std.specs.Prelude.{Some, None, Result, Ok, Err, IsErrAnd}
 use Rattle.std.specs.List.{AllByRecursion}
 use Rattle.std.proofs.lemmas.List.{append-nil}
@@ -13,6 +13,7 @@ use Rattle.shell_print.proofs.WriteLemmas.{prefix_then, stopped, writes_then}
 use Rattle.shell_serve.specs.Spans.{is_unended}
 use Rattle.shell_serve.specs.Sources.{Given}
 use Rattle.shell_serve.specs.Sessions.{MayBeQuiet, WritesForm}
+use Rattle.ui_session.specs.Named.{showing}
 use Rattle.ui_session.specs.Dialogues.{explanation_line, explanation_text, IsExplanation, IsEcho, IsEchoOf, IsGap, interactive}
 
 -- nothing is explained
@@ -23,9 +24,14 @@ quiet_before : (line : Given) → IsEchoOf line []
 quiet_before None = ([], inl refl)
 quiet_before (Some line) = inl refl
 
+-- the line of a run may be shown
+shows_due : (is_model : Bool) (due : List ℕ) → showing is_model due due
+shows_due true due = inl refl
+shows_due false due = refl
+
 -- the replies may be the only output
-pub quiet : MayBeQuiet interactive
-quiet = record { before = quiet_before; explains = none_explained }
+pub quiet : (is_model : Bool) → MayBeQuiet interactive (showing is_model)
+quiet is_model = record { before = quiet_before; explains = none_explained; shows = shows_due is_model }
 
 -- the echo of a line for which memory ran out
 pub lost_echo : {A : Type 0} {r : Result A ServeFault} {a b : Seen} (line : List ℕ) → WritesForm (IsEcho line) a r b

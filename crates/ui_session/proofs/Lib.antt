@@ -1,2 +1,3 @@
 pub mod DialogueLemmas
+pub mod NamedLemmas
 pub mod StyleLemmas

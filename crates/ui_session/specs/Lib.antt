@@ -1,2 +1,3 @@
 pub mod Dialogues
+pub mod Named
 pub mod Verbs

@@ -5,6 +5,7 @@ ghost use Rattle.shell_serve.specs.Replying.{FitsReply};
 ghost use Rattle.ui_session.specs.Dialogues.{interactive};
 
 use crate::directives::{directive, sort};
+use crate::named_replies::NamedReplies;
 use crate::room::Room;
 use crate::written::{explain, gap_before, write_echo};
 use dbg_base::{Call, Said};
@@ -12,33 +13,37 @@ use dbg_command::SessionView;
 use proc_tree::Program;
 use shell_io::{GivenLine, Noted, Sink};
 use shell_parse::without_return;
-use shell_print::{ServeFault, print_refusal, print_reply};
-use shell_serve::{LineReply, LineSort, Observer};
+use shell_print::ServeFault;
+use shell_serve::{LineReply, LineSort, Observer, PlainReplies, ReplyForm};
 use std::alloc::{AllocError, Global};
 use std::mem;
 use ui_text::Notes;
-use ui_view::{Answered, CountedCommands, Echo, Explainer, Told};
+use ui_view::{Answered, CountedCommands, Echo, Explainer, ReplyLines, Told};
 
 /// The observer of an interactive session. It writes each line that was not typed, and an explanation after the reply. A directive has only
 /// an explanation. A command line without a seat is one of seat 1.
 #[derive(Drop)]
-pub struct Dialogue<T> {
+pub struct Dialogue<'a, T> {
+    form: NamedReplies<'a>,
     explainer: T,
     commands: CountedCommands,
-    // The last reply without its line end, if the explainer keeps replies.
+    // The last reply as it is shown, and as a run writes it, without line ends, if the explainer keeps replies.
     reply: Vec<u8>,
+    plain_reply: Vec<u8>,
     // The last explanation.
     notes: Notes,
     is_out_of_memory: bool,
 }
 
-impl<T> Dialogue<T> {
-    /// A session with this explainer.
-    pub fn new(alloc: Global, explainer: T) -> Dialogue<T> {
+impl<'a, T> Dialogue<'a, T> {
+    /// A session with replies in this form, and with this explainer.
+    pub fn new(alloc: Global, form: NamedReplies<'a>, explainer: T) -> Dialogue<'a, T> {
         Dialogue {
+            form,
             explainer,
             commands: CountedCommands::new(alloc),
             reply: Vec::new(alloc),
+            plain_reply: Vec::new(alloc),
             notes: Notes::new(alloc),
             is_out_of_memory: false,
         }
@@ -56,9 +61,10 @@ impl<T> Dialogue<T> {
     }
 }
 
-// Keeps the reply to a line, without its line end, in place of the last one. Error: memory ran out.
-fn keep_reply(
+// Keeps the reply to a line in this form, without its line end, in place of the last one. Error: memory ran out.
+fn keep_reply<F: ReplyForm>(
     alloc: Global,
+    form: &F,
     program: &Program,
     reply: LineReply<'_>,
     kept: &mut Vec<u8>,
@@ -67,10 +73,7 @@ fn keep_reply(
 {
     kept.clear();
     let mut line = Noted::new(Room::Text(mem::replace(kept, Vec::new(alloc))));
-    let written = match reply {
-        LineReply::Said(call, said) => print_reply(program, call, said, &mut line),
-        LineReply::Refused(refusal) => print_refusal(program, refusal, &mut line),
-    };
+    let written = form.write_reply(alloc, program, reply, &mut line);
     *kept = line.into_inner().into_text(alloc);
     if kept.last() == Some(&b'\n') {
         let _end = kept.pop();
@@ -95,10 +98,10 @@ fn explain_line<'x, T: Explainer<N>, N>(
     view: SessionView<'x>,
     line: &'x GivenLine<'x, N>,
     told: Told<'x>,
-    reply: &'x [u8],
+    replies: ReplyLines<'x>,
     notes: &mut Notes,
 ) -> Result<(), AllocError> {
-    explainer.explain(&Answered::new(view, line, told, reply), notes)
+    explainer.explain(&Answered::new(view, line, told, replies), notes)
 }
 
 // Notes the command of this line, if it was accepted, or that one was taken back.
@@ -115,7 +118,7 @@ fn count<N>(commands: &mut CountedCommands, line: &GivenLine<'_, N>, reply: Line
     }
 }
 
-impl<T: Explainer<N>, N> Observer<N> for Dialogue<T> {
+impl<T: Explainer<N>, N> Observer<N> for Dialogue<'_, T> {
     ghost manner = { interactive };
 
     #[inline(always)]
@@ -171,7 +174,10 @@ impl<T: Explainer<N>, N> Observer<N> for Dialogue<T> {
         writer: &mut W,
     ) -> Result<(), ServeFault> {
         if self.explainer.keeps_replies() {
-            let kept = keep_reply(alloc, view.program, reply, &mut self.reply);
+            let kept = keep_reply(alloc, &self.form, view.program, reply, &mut self.reply);
+            self.is_out_of_memory |= kept.is_err();
+            let plain = &mut self.plain_reply;
+            let kept = keep_reply(alloc, &PlainReplies, view.program, reply, plain);
             self.is_out_of_memory |= kept.is_err();
         }
         let explained = explain_line(
@@ -179,7 +185,10 @@ impl<T: Explainer<N>, N> Observer<N> for Dialogue<T> {
             view,
             &*line,
             told(&self.commands, reply),
-            self.reply.as_slice(),
+            ReplyLines {
+                shown: self.reply.as_slice(),
+                plain: self.plain_reply.as_slice(),
+            },
             &mut self.notes,
         );
         self.is_out_of_memory |= explained.is_err();

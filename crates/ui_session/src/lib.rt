@@ -3,11 +3,13 @@
 
 mod dialogue;
 mod directives;
+mod named_replies;
 mod room;
 mod typed;
 mod written;
 
 pub use dialogue::Dialogue;
+pub use named_replies::{NamedReplies, plain_text};
 pub use room::Room;
 pub use typed::Typed;
 pub use written::explain;

@@ -5,6 +5,7 @@
 mod escapes;
 mod faults;
 mod forms;
+mod indices;
 mod names;
 mod notes;
 mod numbers;
@@ -16,6 +17,7 @@ pub use forms::{
     is_directive_word, is_whole_word, tell_help, tell_near_word, tell_to_file, tell_too_long,
     tell_word, whole_word,
 };
+pub use indices::index_count;
 pub use names::{Declaration, DeclaredAs, find_declaration};
 pub use notes::{NoteLine, Notes, Part, StyleChange};
 pub use numbers::meaning;

@@ -1,5 +1,6 @@
 //! The lines of an explanation, made of parts.
 
+use crate::indices::base_length;
 use dbg_base::Name;
 use itoa::Buffer;
 use shell_io::Style;
@@ -17,13 +18,14 @@ const ROOM: usize = 256;
 // What is before a line in the text: the end of the line before it, and two blanks.
 const BEGIN: &[u8] = b"\n  ";
 
-/// A part of a line: words, bytes, a name, a number, or how many events there are. The name of a process with its number, and a new value,
-/// have a style of their own.
+/// A part of a line: words, bytes, a name, a number, or how many events there are. `Indexed` is a name with the indices at its end in
+/// brackets. The name of a process with its number, and a new value, have a style of their own.
 #[derive(Clone, Copy)]
 pub enum Part<'a> {
     Text(&'a str),
     Bytes(&'a [u8]),
     Name(Name),
+    Indexed(Name),
     Number(i64),
     Natural(u32),
     Count(usize),
@@ -237,6 +239,19 @@ impl Notes {
         self.put_bytes(word.as_bytes())
     }
 
+    // Appends a plain name, with the indices at its end in brackets.
+    fn put_indexed(&mut self, name: &[u8]) -> Result<(), AllocError> {
+        let length = base_length(name);
+        self.put_bytes(name.get(..length).unwrap_or(name))?;
+        let indices = name.get(length..).unwrap_or(&[]);
+        for index in indices.split(|byte| *byte == b'_').skip(1) {
+            self.put_bytes(b"[")?;
+            self.put_bytes(index)?;
+            self.put_bytes(b"]")?;
+        }
+        Ok(())
+    }
+
     /// Appends a part to the last line.
     #[inline(always)]
     pub fn put(&mut self, part: &Part<'_>) -> Result<(), AllocError> {
@@ -244,6 +259,7 @@ impl Notes {
             Part::Text(words) => self.put_bytes(words.as_bytes()),
             Part::Bytes(bytes) => self.put_bytes(bytes),
             Part::Name(name) => self.put_bytes(name.bytes()),
+            Part::Indexed(name) => self.put_indexed(name.bytes()),
             Part::Number(number) => self.put_number(*number),
             Part::Natural(number) => self.put_number(i64::from(*number)),
             Part::Events(count) => self.put_events(*count),

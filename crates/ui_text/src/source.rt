@@ -16,8 +16,8 @@ struct CommandPlace {
 // The names of a process, in the plain program and as it was written, the names of its variables, and its commands, in order.
 #[derive(Drop)]
 struct ProcessWords {
+    plain: Vec<u8>,
     name: Vec<u8>,
-    written: Vec<u8>,
     variables: Vec<Vec<u8>>,
     commands: Vec<CommandPlace>,
 }
@@ -29,6 +29,7 @@ const SHOWN: usize = 160;
 #[derive(Drop)]
 pub struct ProgramText {
     text: Vec<u8>,
+    is_model: bool,
     // The offset at which each line begins.
     starts: Vec<usize>,
     processes: Vec<ProcessWords>,
@@ -119,8 +120,9 @@ fn one_line(alloc: Global, text: &[u8]) -> Result<Vec<u8>, AllocError> {
 }
 
 impl ProgramText {
-    /// A text whose processes, variables and commands are added in the order of the program. Error: memory ran out.
-    pub fn new(alloc: Global, text: &[u8]) -> Result<ProgramText, AllocError> {
+    /// A text, which may be in the model notation, and whose processes, variables and commands are added in the order of the program. Error:
+    /// memory ran out.
+    pub fn new(alloc: Global, text: &[u8], is_model: bool) -> Result<ProgramText, AllocError> {
         let mut starts = Vec::new(alloc);
         let mut from = 0usize;
         for line in text.split(|byte| *byte == b'\n') {
@@ -129,6 +131,7 @@ impl ProgramText {
         }
         Ok(ProgramText {
             text: Vec::from_slice(alloc, text)?,
+            is_model,
             starts,
             processes: Vec::new(alloc),
             longest_name: 0,
@@ -140,24 +143,29 @@ impl ProgramText {
         self.text.as_slice()
     }
 
+    /// Whether it is in the model notation.
+    pub fn is_model(&self) -> bool {
+        self.is_model
+    }
+
     /// Adds the next process, with its name in the plain program, and as it was written. Error: memory ran out.
     pub fn add_process(
         &mut self,
         alloc: Global,
+        plain: &[u8],
         name: &[u8],
-        written: &[u8],
     ) -> Result<(), AllocError> {
         self.longest_name = self.longest_name.max(name.len());
         self.processes.push(ProcessWords {
+            plain: Vec::from_slice(alloc, plain)?,
             name: Vec::from_slice(alloc, name)?,
-            written: Vec::from_slice(alloc, written)?,
             variables: Vec::new(alloc),
             commands: Vec::new(alloc),
         })?;
         Ok(())
     }
 
-    /// Adds the next variable of the last process. Error: memory ran out.
+    /// Adds the next variable of the last process, as it was written. Error: memory ran out.
     pub fn add_variable(&mut self, alloc: Global, name: &[u8]) -> Result<(), AllocError> {
         let name = Vec::from_slice(alloc, name)?;
         if let Some(process) = self.processes.last_mut() {
@@ -184,12 +192,20 @@ impl ProgramText {
         Ok(())
     }
 
-    /// How many bytes the longest name of a process has.
+    /// How many bytes the longest name of a process has, as it was written.
     pub fn longest_name(&self) -> usize {
         self.longest_name
     }
 
-    /// The name of a process. It is empty if there is no such process.
+    /// The name of a process in the plain program, as `server_3`. It is empty if there is no such process.
+    pub fn plain_name(&self, pid: Pid) -> &[u8] {
+        match self.processes.get(pid.0 as usize) {
+            Some(process) => process.plain.as_slice(),
+            None => &[],
+        }
+    }
+
+    /// The name of a process as it was written, as `server[3]`. It is empty if there is no such process.
     pub fn process_name(&self, pid: Pid) -> &[u8] {
         match self.processes.get(pid.0 as usize) {
             Some(process) => process.name.as_slice(),
@@ -197,20 +213,12 @@ impl ProgramText {
         }
     }
 
-    /// The name of a process as it was written, as `server[3]`. It is empty if there is no such process.
-    pub fn written_name(&self, pid: Pid) -> &[u8] {
-        match self.processes.get(pid.0 as usize) {
-            Some(process) => process.written.as_slice(),
-            None => &[],
-        }
-    }
-
     /// Whether a process has this name, in the plain program or as it was written.
     pub fn is_named(&self, pid: Pid, word: &[u8]) -> bool {
-        self.process_name(pid) == word || self.written_name(pid) == word
+        self.plain_name(pid) == word || self.process_name(pid) == word
     }
 
-    /// The name of a variable of a process. It is empty if there is no such variable.
+    /// The name of a variable of a process as it was written, as `vote[2]`. It is empty if there is no such variable.
     pub fn variable_name(&self, pid: Pid, variable: u32) -> &[u8] {
         let process = self.processes.get(pid.0 as usize);
         match process.and_then(|process| process.variables.get(variable as usize)) {

@@ -3,12 +3,14 @@
 use break_book::Breakpoint;
 use dbg_base::{Cut, Name, Pid, Refusal};
 use std::alloc::{AllocError, Global};
-use ui_text::{Notes, Part};
+use ui_text::{Notes, Part, index_count};
 use ui_view::SourceView;
 
 /// A cut that is shown, with its breakpoint.
 pub struct NamedCut {
     pub name: Name,
+    // Whether the indices at the end of the name are shown in brackets.
+    is_indexed: bool,
     /// The position of the breakpoint among all, from 0.
     pub place: usize,
     pub cut: Cut,
@@ -26,6 +28,7 @@ impl Drop for NamedCut {
     fn drop(self) {
         let NamedCut {
             name: _,
+            is_indexed: _,
             place: _,
             cut: _,
             halts: _,
@@ -39,6 +42,21 @@ impl Drop for NamedCut {
 /// The first line, if there is one.
 pub fn bytes_of(words: &Notes) -> &[u8] {
     words.line(0).bytes
+}
+
+/// Appends these lines to the last line, with this between them.
+pub fn put_joined(
+    notes: &mut Notes,
+    lines: &Notes,
+    between: &'static str,
+) -> Result<(), AllocError> {
+    let mut word = "";
+    for number in 0..lines.count() {
+        let line = Part::Bytes(lines.line(number).bytes);
+        notes.add_with("{}{}", &[Part::Text(word), line])?;
+        word = between;
+    }
+    Ok(())
 }
 
 // Reads the parts of a predicate.
@@ -73,6 +91,7 @@ fn named_cut(alloc: Global, view: SourceView<'_>, name: Name) -> Result<Option<N
     put_parts(&mut pids, &mut parts, view, breakpoint)?;
     Ok(Some(NamedCut {
         name,
+        is_indexed: view.text.is_model(),
         place,
         cut: cut.copy()?,
         halts: view.session.book.halted() == Some(name),
@@ -127,31 +146,42 @@ pub fn size(cut: &Cut, processes: u32) -> usize {
 }
 
 impl NamedCut {
+    /// The name of the breakpoint, as its author wrote it.
+    pub fn name(&self) -> Part<'static> {
+        if self.is_indexed {
+            Part::Indexed(self.name)
+        } else {
+            Part::Name(self.name)
+        }
+    }
+
+    /// How many bytes that name has.
+    pub fn name_length(&self) -> usize {
+        let name = self.name.bytes();
+        if self.is_indexed {
+            name.len().saturating_add(index_count(name))
+        } else {
+            name.len()
+        }
+    }
+
     /// The name of the breakpoint, and whether it halts the session.
     pub fn title(&self, alloc: Global) -> Result<Notes, AllocError> {
         let mut title = Notes::new(alloc);
         let halts = Part::Text(if self.halts { " halts here" } else { "" });
-        title.say_with("{}{}", &[Part::Name(self.name), halts])?;
+        title.say_with("{}{}", &[self.name(), halts])?;
         Ok(title)
     }
 
     /// Appends what the breakpoint asks for to the last line: `left (state = 2) and right (state = 3)`.
     pub fn put_predicate(&self, notes: &mut Notes) -> Result<(), AllocError> {
-        let mut word = "";
-        for number in 0..self.parts.count() {
-            notes.add_with(
-                "{}{}",
-                &[Part::Text(word), Part::Bytes(self.parts.line(number).bytes)],
-            )?;
-            word = " and ";
-        }
-        Ok(())
+        put_joined(notes, &self.parts, " and ")
     }
 
     /// The name of the breakpoint and what it asks for, in one line: `split: left (state = 2) and right (state = 3)`.
     pub fn heading(&self, alloc: Global) -> Result<Notes, AllocError> {
         let mut heading = Notes::new(alloc);
-        heading.say_with("{}: ", &[Part::Name(self.name)])?;
+        heading.say_with("{}: ", &[self.name()])?;
         self.put_predicate(&mut heading)?;
         Ok(heading)
     }
@@ -159,7 +189,7 @@ impl NamedCut {
     /// The same, with a line for each part.
     pub fn heading_lines(&self, alloc: Global) -> Result<Notes, AllocError> {
         let mut heading = Notes::new(alloc);
-        let mut word = Part::Name(self.name);
+        let mut word = self.name();
         let mut between = ": ";
         for number in 0..self.parts.count() {
             let part = Part::Bytes(self.parts.line(number).bytes);

@@ -14,7 +14,7 @@ mod theme;
 mod timed;
 
 pub use commands::put_command;
-pub use cuts::{NamedCut, bytes_of, halting, named_cuts, size};
+pub use cuts::{NamedCut, bytes_of, halting, named_cuts, put_joined, size};
 pub use listing::{ShownEvent, Timeline, event_of, put_left_out};
 pub use messages::{Received, Sent, exchange_of};
 pub use selection::{Selection, unknown_name};

@@ -32,7 +32,7 @@ impl<'a> SourceView<'a> {
         name: Name,
         detector: &Detector,
     ) -> Result<(), AllocError> {
-        notes.add_with("{}: ", &[Part::Name(name)])?;
+        notes.add_with("{}: ", &[self.breakpoint(name)])?;
         let mut word = "";
         for at in 0..self.session.program.processes() {
             let Some((pid, expr)) = detector.conjunct(at as usize) else {
@@ -136,11 +136,11 @@ impl<'a> SourceView<'a> {
 
     /// Says how the session continues after a halt.
     pub fn tell_continuing(&self, notes: &mut Notes, halting: Name) -> Result<(), Refusal> {
-        notes.say_with("`pass {}", &[Part::Name(halting)])?;
+        notes.say_with("`pass {}", &[self.breakpoint(halting)])?;
         match self.next_halting(notes.alloc(), halting)? {
             Some(next) => notes.add_with(
                 "` disarms it, and then the breakpoint {} halts the session",
-                &[Part::Name(next)],
+                &[self.breakpoint(next)],
             )?,
             None => notes.add("` lets the session continue")?,
         }
@@ -148,7 +148,7 @@ impl<'a> SourceView<'a> {
         if self.cut_of(halting).is_some_and(|cut| self.is_beyond(cut)) {
             notes.add_with(
                 "`goto {}` undoes the events that are not in its cut; ",
-                &[Part::Name(halting)],
+                &[self.breakpoint(halting)],
             )?;
         }
         notes.add("`undo`, `rollback` and `back` undo what led there")?;

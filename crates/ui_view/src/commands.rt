@@ -5,7 +5,17 @@ use dbg_base::Choice;
 use std::alloc::{AllocError, Global};
 use ui_text::{Notes, Part};
 
-impl ProcessView<'_> {
+impl<'a> ProcessView<'a> {
+    /// A command in a word: its label, or else its number.
+    pub fn command(&self, choice: Choice) -> Part<'a> {
+        let label = self.text.label(self.pid, choice);
+        if label.is_empty() {
+            Part::Natural(choice.0)
+        } else {
+            Part::Bytes(label)
+        }
+    }
+
     /// Appends a command to the last line: its label, its number, and the line of the text at which it begins.
     pub fn put_command(&self, notes: &mut Notes, choice: Choice) -> Result<(), AllocError> {
         let label = self.text.label(self.pid, choice);

@@ -8,13 +8,13 @@ use event_rows::{Event, Exchange, Setting};
 use proc_tree::Program;
 use shell_io::Style;
 use std::alloc::AllocError;
-use ui_text::{Notes, Part};
+use ui_text::{Notes, Part, ProgramText};
 
-// The room of the columns of a line about an event, besides the names of processes: for the number of the event, for a message, its arrow
-// and the number of the event that sent it, and for the variables that were set.
-const NUMBER: usize = 5;
+// The room of the columns of a line about an event, besides the names of processes and the words after them: for the number of the event,
+// for a message, its arrow and the number of the event that sent it, and for the variables that were set.
+const NUMBER: usize = 4;
 
-const MESSAGE: usize = 9;
+const MESSAGE: usize = 8;
 
 const SETTINGS: usize = 28;
 
@@ -62,13 +62,20 @@ struct EventColumns {
     command: usize,
 }
 
+// The word before the number of an event. In a model, a reply names a command without a label by its number.
+fn number_word(text: &ProgramText) -> &'static str {
+    if text.is_model() { " event " } else { " " }
+}
+
 impl EventColumns {
-    // The columns for a program whose longest name has so many bytes. One process alone has no messages.
-    fn of(program: &Program, longest: usize) -> EventColumns {
+    // The columns for a program with this text. One process alone has no messages.
+    fn of(program: &Program, text: &ProgramText) -> EventColumns {
         let has_messages = program.processes() > 1;
-        let message = longest.saturating_add(NUMBER);
+        let longest = text.longest_name();
+        let named = longest.saturating_add(number_word(text).len());
+        let message = named.saturating_add(NUMBER);
         let settings = if has_messages {
-            message.saturating_add(longest).saturating_add(MESSAGE)
+            message.saturating_add(named).saturating_add(MESSAGE)
         } else {
             message
         };
@@ -191,7 +198,7 @@ impl ProcessView<'_> {
         notes.put(&Part::Text(if is_received { " < " } else { " > " }))?;
         notes.put(&self.process(message.other))?;
         if let Some(sender) = message.sender {
-            notes.put(&Part::Text(" "))?;
+            notes.put(&Part::Text(number_word(self.text)))?;
             notes.put(&Part::Natural(sender))?;
         }
         Ok(())
@@ -224,13 +231,13 @@ impl SourceView<'_> {
             return Ok(());
         };
         let scope = self.scope(pid);
-        let columns = EventColumns::of(self.session.program, self.text.longest_name());
+        let columns = EventColumns::of(self.session.program, self.text);
         notes.begin_line(Style::Plain)?;
         if news == EventNews::MadeByBatch {
             notes.put(&Part::Text("  "))?;
         }
         notes.put(&scope.head())?;
-        notes.put(&Part::Text(" "))?;
+        notes.put(&Part::Text(number_word(self.text)))?;
         notes.put(&Part::Count(number))?;
         if columns.has_messages {
             notes.tab(columns.message)?;

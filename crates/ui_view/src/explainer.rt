@@ -28,6 +28,13 @@ pub enum Told<'a> {
     Refused(&'a Refusal),
 }
 
+/// The line of a reply without its line end, as it is shown and as a run writes it. Both are empty unless the explainer keeps replies.
+#[derive(Clone, Copy)]
+pub struct ReplyLines<'a> {
+    pub shown: &'a [u8],
+    pub plain: &'a [u8],
+}
+
 /// A line, and what was said to it.
 #[derive(Drop)]
 pub struct Answered<'a, N> {
@@ -35,8 +42,7 @@ pub struct Answered<'a, N> {
     pub view: SessionView<'a>,
     pub given: &'a GivenLine<'a, N>,
     pub told: Told<'a>,
-    /// The line of the reply, which is empty unless the explainer keeps replies.
-    pub reply: &'a [u8],
+    pub replies: ReplyLines<'a>,
 }
 
 impl<'a, N> Answered<'a, N> {
@@ -45,13 +51,13 @@ impl<'a, N> Answered<'a, N> {
         view: SessionView<'a>,
         given: &'a GivenLine<'a, N>,
         told: Told<'a>,
-        reply: &'a [u8],
+        replies: ReplyLines<'a>,
     ) -> Answered<'a, N> {
         Answered {
             view,
             given,
             told,
-            reply,
+            replies,
         }
     }
 }

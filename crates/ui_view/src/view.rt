@@ -1,7 +1,7 @@
 //! What explanations are made from.
 
 use crate::expressions::ProcessView;
-use dbg_base::Pid;
+use dbg_base::{Name, Pid};
 use dbg_command::SessionView;
 use std::alloc::AllocError;
 use ui_text::{Notes, Part, ProgramText};
@@ -17,6 +17,15 @@ impl<'a> SourceView<'a> {
     /// A process of the session.
     pub fn scope(&self, pid: Pid) -> ProcessView<'a> {
         ProcessView::new(self.session.program, self.text, pid)
+    }
+
+    /// The name of a breakpoint: in a model, with its indices in brackets.
+    pub fn breakpoint(&self, name: Name) -> Part<'a> {
+        if self.text.is_model() {
+            Part::Indexed(name)
+        } else {
+            Part::Name(name)
+        }
     }
 
     /// Says that no process has this name, and which names there are.

@@ -76,7 +76,7 @@ impl TextScene<'_> {
 
     // The marks of a cut that does not go across are in each column.
     fn measure_part(&self, needs: &mut Needs, cut: &NamedCut) {
-        let name = cut.name.bytes().len().saturating_add(3);
+        let name = cut.name_length().saturating_add(3);
         for pid in self.selection.pids() {
             if !cut.is_prefix {
                 needs.add(*pid, name);

@@ -136,8 +136,8 @@ impl<'a> TextScene<'a> {
         let Some(event) = event_of(self.view.session.world, shown) else {
             return Ok(line);
         };
-        let choice = Part::Natural(event.choice().0);
-        line.add_with("{}{}", &[Part::Text(":"), choice])?;
+        let command = self.scope(shown.pid).command(event.choice());
+        line.add_with("{}{}", &[Part::Text(":"), command])?;
         let room = room.saturating_sub(bytes_of(&line).len());
         let message = self.exchanged(shown, room)?;
         let room = room.saturating_sub(bytes_of(&message).len());
@@ -166,7 +166,7 @@ impl<'a> TextScene<'a> {
         Ok(Some(label))
     }
 
-    /// The choices that a process can make again, in brackets, if there are some.
+    /// The commands that a process can make again, in brackets, if there are some.
     pub(super) fn again(&self, pid: Pid) -> Result<Option<Notes>, AllocError> {
         let world = self.view.session.world;
         if world.line_len(pid) <= world.place(pid) {
@@ -176,7 +176,10 @@ impl<'a> TextScene<'a> {
         let mut between = "";
         for at in world.place(pid)..world.line_len(pid) {
             if let Some(choice) = world.choice(pid, at) {
-                line.add_with("{}{}", &[Part::Text(between), Part::Natural(choice.0)])?;
+                line.add_with(
+                    "{}{}",
+                    &[Part::Text(between), self.scope(pid).command(choice)],
+                )?;
                 between = " ";
             }
         }

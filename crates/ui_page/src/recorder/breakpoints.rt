@@ -194,7 +194,7 @@ impl Breakpoints {
         breakpoint: &Breakpoint,
     ) -> Result<ShownBreakpoint, AllocError> {
         let mut mark = marks.another();
-        mark.text(name.bytes())?;
+        mark.breakpoint(view, Some(name))?;
         mark.count(usize::from(is_armed))?;
         let reported = match self.take(name) {
             Some(reported) => ShownBreakpoint {
@@ -283,14 +283,18 @@ impl Breakpoints {
         operations.list(operation)
     }
 
-    fn put_halted(&mut self, operations: &mut List, book: &Book) -> Result<(), AllocError> {
-        let halted = book.halted();
+    fn put_halted(
+        &mut self,
+        operations: &mut List,
+        view: SourceView<'_>,
+    ) -> Result<(), AllocError> {
+        let halted = view.session.book.halted();
         if halted == self.halted {
             return Ok(());
         }
         self.halted = halted;
         let mut operation = operations.another_of("h")?;
-        operation.name(halted)?;
+        operation.breakpoint(view, halted)?;
         operations.list(operation)
     }
 
@@ -312,6 +316,6 @@ impl Breakpoints {
             self.put_marks(operations, view, marks.items())?;
         }
         self.put_searches(operations, book, change)?;
-        Ok(self.put_halted(operations, book)?)
+        Ok(self.put_halted(operations, view)?)
     }
 }

@@ -13,13 +13,13 @@ refuse_line-requires-clause-fits g c κs within =
 pub returns-in-Ok-clause-answers : goal.returns-in-Ok-clause-answers
 returns-in-Ok-clause-answers g c =
     λ bytes parsed.
-    call_told g.T.Observer.manner g.L.Run.program bytes c.args.locked.now.journal c.args.asked _ _ _ _ _
+    call_told g.T.Observer.manner (g.F.ReplyForm.Shows c.args.form.now) g.L.Run.program bytes c.args.locked.now.journal c.args.asked _ _ _ _ _
     (is_number c.args.seats.now c.args.asked.seat c.index-seats-seat.result c.requires.seats c.requires.seat.0 c.requires.seat.1)
     parsed c.in-Ok.ensures.makes (c.tell_entered.ensures.told _ (is_last c.in-Ok.ensures.enters))
 
 pub returns-in-Err-clause-answers : goal.returns-in-Err-clause-answers
 returns-in-Err-clause-answers g c =
     λ bytes parsed.
-    call_told g.T.Observer.manner g.L.Run.program bytes c.args.locked.now.journal c.args.asked _ _ _ _ _
+    call_told g.T.Observer.manner (g.F.ReplyForm.Shows c.args.form.now) g.L.Run.program bytes c.args.locked.now.journal c.args.asked _ _ _ _ _
     (is_number c.args.seats.now c.args.asked.seat c.index-seats-seat.result c.requires.seats c.requires.seat.0 c.requires.seat.1)
     parsed c.in-Err.ensures.makes c.refuse_line.ensures.told

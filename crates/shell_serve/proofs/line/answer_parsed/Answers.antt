@@ -15,13 +15,13 @@ returns-in-Ok-Some-clause-answers g c =
 pub returns-in-Ok-None-clause-answers : goal.returns-in-Ok-None-clause-answers
 returns-in-Ok-None-clause-answers g c =
     λ bytes parsed.
-    none_replied g.T.Observer.manner g.L.Run.program bytes c.args.locked.now.journal _ c.requires.quiet
+    none_replied g.T.Observer.manner (g.F.ReplyForm.Shows c.args.form.now) g.L.Run.program bytes c.args.locked.now.journal _ c.requires.quiet
     (subst (λ (o : Option Line). IsParsed g.L.Run.program bytes (Ok o)) c.in-Ok-None.field-0-is
     (subst (λ (r : Result (Option Line) Refusal). IsParsed g.L.Run.program bytes r) c.in-Ok-None.is parsed))
 
 pub returns-in-Err-clause-answers : goal.returns-in-Err-clause-answers
 returns-in-Err-clause-answers g c =
     λ bytes parsed.
-    refusal_replied g.T.Observer.manner g.L.Run.program bytes c.args.locked.now.journal c.in-Err.refusal _ _
+    refusal_replied g.T.Observer.manner (g.F.ReplyForm.Shows c.args.form.now) g.L.Run.program bytes c.args.locked.now.journal c.in-Err.refusal _ _
     (subst (λ (r : Result (Option Line) Refusal). IsParsed g.L.Run.program bytes r) c.in-Err.is parsed)
     c.refuse_line.ensures.told

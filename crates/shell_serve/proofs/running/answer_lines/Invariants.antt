@@ -8,7 +8,7 @@ abbrev pub invariant-loop-span : goal.invariant-loop-span
 invariant-loop-span g l = record {
   ready : g.S.LineSource.Ready l.source l.reader;
   seats : AreAllSeats l.seats;
-  answered : Answered g.S.LineSource.Gives g.T.Observer.manner g.L.Run.program l.fn.source l.fn.reader l.source l.reader l.locked.journal
+  answered : Answered g.S.LineSource.Gives g.T.Observer.manner (g.F.ReplyForm.Shows l.form) g.L.Run.program l.fn.source l.fn.reader l.source l.reader l.locked.journal
       (g.W.Sink.seen l.fn.writer) (g.W.Sink.seen l.writer);
   reader : g.R.Source.health l.fn.reader ≡ Fine → g.R.Source.health l.reader ≡ Fine;
   writer : (g.W.Sink.seen l.fn.writer).health ≡ Fine → (g.W.Sink.seen l.writer).health ≡ Fine;

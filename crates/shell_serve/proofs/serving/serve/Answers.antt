@@ -22,7 +22,7 @@ use Rattle.shell_serve.proofs.SessionLemmas.{where_served}
 use Rattle.shell_serve.proofs.serving.serve.Goals as goal
 
 pub play-requires-clause-quiet : goal.play-requires-clause-quiet
-play-requires-clause-quiet g c = record { before = λ line. refl; explains = refl }
+play-requires-clause-quiet g c = record { before = λ line. refl; explains = refl; shows = λ due. refl }
 
 pub returns-in_err-span-clause-broken : goal.returns-in_err-span-clause-broken
 returns-in_err-span-clause-broken g c =
