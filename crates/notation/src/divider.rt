@@ -1,12 +1,12 @@
 //! How a command line is divided into pieces.
 
 use crate::pieces::{LinePiece, LinePieces, Meant, Reading};
+use notation_parser::parser::ModelParser;
 use notation_programs::building::ProcessCopy;
 use notation_programs::expansion::Expansion;
 use notation_tree::fault::{Expanding, ExpansionStop};
 use notation_tree::lexer::has_notation;
 use notation_tree::limits::NESTING;
-use notation_tree::parser::ModelParser;
 use notation_tree::scope::{ModelNames, ModelScope};
 use notation_tree::syntax::{Binder, DeclarationNode, Expression, Reference};
 use notation_tree::token::{Mark, SourceToken, SourceTokenKind};

@@ -67,7 +67,7 @@ impl<'a> LineExpander<'a> {
         Ok(LineExpander {
             alloc,
             expansion,
-            names: ModelNames::new(alloc, expansion.model.tables.visible.as_slice())?,
+            names: ModelNames::new(alloc, &expansion.model.tables)?,
             steps: SESSION_STEPS,
             process: None,
         })

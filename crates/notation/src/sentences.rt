@@ -11,10 +11,11 @@ fn expected_text(expected: Expected) -> &'static str {
         Expected::Mark(mark) => mark_text(mark),
         Expected::Name => "a name",
         Expected::Expression => "an expression",
-        Expected::Declaration => "`const`, `let` or `process`",
+        Expected::Declaration => "`const`, `let`, `enum`, `message` or `process`",
         Expected::Item => "an item or `}`",
         Expected::When => "`when`",
         Expected::Action => "`send`, `recv` or an assignment",
+        Expected::Case => "`when`, `else` or the label of a case",
         Expected::End => "the end of the text",
     }
 }
@@ -27,6 +28,8 @@ fn meaning_text(meaning: Meaning) -> &'static str {
         Meaning::Member => "a member of a range has this name already",
         Meaning::Parameter => "another parameter has this name already",
         Meaning::Variable => "a variable has this name already",
+        Meaning::Type => "an enum or a message has this name already",
+        Meaning::Field => "another field of the message has this name",
     }
 }
 
@@ -69,6 +72,15 @@ fn problem_text(problem: Problem) -> &'static str {
         Problem::Overflow => "the result is not a number of 64 bits",
         Problem::DivisionByZero => "division by 0",
         Problem::BelowZero => "an index in a name cannot be below 0",
+        Problem::NoType => "no enum and no message has this name",
+        Problem::NoField =>
+            "no message has this field, or not the one that the variable is declared with",
+        Problem::FieldOfSeveral => "several messages have this field",
+        Problem::EmptyRange => "the range of a field has at least one value",
+        Problem::OtherEnum => "this is a constant of another enum",
+        Problem::ReadsReceived =>
+            "the guard of a case is looked at before the message is there, so it cannot read what the case receives",
+        Problem::CaseAfterElse => "no case follows `else`",
         Problem::LabelTaken => "another command of the process has this label",
         Problem::NoLabel => "no command of the process has this label",
         Problem::ManyParameters => "a definition has at most 64 parameters",
@@ -96,7 +108,9 @@ fn likely_instead(expected: Expected) -> Option<&'static str> {
         Expected::Name => Some(
             "a name is a small letter, and then small letters, digits and `_`; words of the language are no names",
         ),
-        Expected::Declaration => Some("a model is made of constants, definitions and processes"),
+        Expected::Declaration => Some(
+            "a model is made of constants, definitions, enums, messages and processes",
+        ),
         Expected::Item => Some(
             "an item begins with `const`, `let`, `var`, `when`, a label and `:`, or `for`",
         ),
@@ -123,6 +137,12 @@ pub fn likely(problem: Problem) -> Option<&'static str> {
         Problem::NotADefinition => Some("define it before: `let NAME(PARAMETER) = EXPRESSION;`"),
         Problem::VariableComputed | Problem::CountComputed => {
             Some("use numbers, constants, members of ranges and definitions of these")
+        }
+        Problem::NoType => {
+            Some("declare it before: `enum NAME { ONE, OTHER }` or `message NAME { FIELD: 0..9 }`")
+        }
+        Problem::FieldOfSeveral => {
+            Some("declare the variable with its message: `var NAME: MESSAGE = ..`")
         }
         Problem::LabelTaken => Some(
             "a label in a `for` has the values of its members as indices; otherwise choose another name",

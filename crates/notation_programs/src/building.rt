@@ -21,16 +21,31 @@ pub struct CommandOrigin {
     pub(crate) at: usize,
 }
 
-/// A process of the plain program: its name, the declaration that it comes from, the values of its members and of its constants, the names
-/// of its variables with their indices, as `vote[2]`, and its commands.
+/// A variable of the plain program: its name with its indices, as `vote[2]`, and the number of its type.
+#[derive(Drop)]
+pub struct VariableOrigin {
+    pub(crate) name: Vec<u8>,
+    pub(crate) kind: Option<usize>,
+}
+
+/// A send in the plain program: the name of the process that receives, and the number of the type of what is sent.
+#[derive(Drop)]
+pub(crate) struct SentKind {
+    pub(crate) target: Vec<u8>,
+    pub(crate) kind: Option<usize>,
+}
+
+/// A process of the plain program: its name, the declaration that it comes from, the values of its members and of its constants, its
+/// variables, its commands, and, in a model with types, what it sends.
 #[derive(Drop)]
 pub struct ProcessCopy {
     pub name: Vec<u8>,
     pub declaration: usize,
     pub members: Vec<i64>,
     pub constants: Vec<Option<ConstantValue>>,
-    pub variables: Vec<Vec<u8>>,
+    pub variables: Vec<VariableOrigin>,
     pub commands: Vec<CommandOrigin>,
+    pub(crate) sends: Vec<SentKind>,
 }
 
 /// Writes a model, and notes its processes and commands.
@@ -88,16 +103,22 @@ impl<'a> Builder<'a> {
     fn constant(&mut self, constant: &'a Constant) -> Expanding<()> {
         let environment = &mut self.writer.environment;
         let value = environment.value(&constant.value, UNFOLDING)?;
+        let is_below_one = matches!(value, ConstantValue::Number(number) if number < 1);
+        if constant.is_width && is_below_one {
+            let at = place(&constant.value);
+            return Err(ExpansionStop::Bad(Problem::EmptyRange, at));
+        }
         environment.set_constant(constant.number, value);
         Ok(())
     }
 
-    // Notes a variable.
-    fn note_variable(&mut self, name: &Name, values: &[i64]) -> Result<(), AllocError> {
-        let mut text = Vec::from_slice(self.alloc(), name.bytes())?;
-        put_indices(&mut text, values)?;
+    // Notes a variable for these members.
+    fn note_variable(&mut self, variable: &VariableNode, values: &[i64]) -> Result<(), AllocError> {
+        let mut name = Vec::from_slice(self.alloc(), variable.name.bytes())?;
+        put_indices(&mut name, values)?;
+        let kind = variable.kind;
         if let Some(process) = self.processes.last_mut() {
-            process.variables.push(text)?;
+            process.variables.push(VariableOrigin { name, kind })?;
         }
         Ok(())
     }
@@ -105,7 +126,7 @@ impl<'a> Builder<'a> {
     // Writes the variable for these members.
     fn variable_copy(&mut self, variable: &'a VariableNode, values: &[i64]) -> Expanding<()> {
         let alloc = self.alloc();
-        self.note_variable(&variable.name, values)?;
+        self.note_variable(variable, values)?;
         let writer = &mut self.writer;
         let start = writer.environment.number(&variable.value, UNFOLDING)?;
         let name = member_name(alloc, &variable.name, values, variable.name_at)?;
@@ -161,6 +182,23 @@ impl<'a> Builder<'a> {
         Ok(())
     }
 
+    // Notes what a command sends, in a model with types.
+    fn note_send(&mut self, command: &'a CommandNode) -> Expanding<()> {
+        let ActionNode::Send(_, target, _) = &command.action else {
+            return Ok(());
+        };
+        let environment = &self.writer.environment;
+        if environment.has_no_types() {
+            return Ok(());
+        }
+        let target = self.writer.name_of(target, UNFOLDING)?;
+        let kind = command.sent;
+        if let Some(process) = self.processes.last_mut() {
+            process.sends.push(SentKind { target, kind })?;
+        }
+        Ok(())
+    }
+
     // Writes an assignment.
     fn assignment(&mut self, assignment: &'a AssignmentNode) -> Expanding<()> {
         let writer = &mut self.writer;
@@ -190,6 +228,7 @@ impl<'a> Builder<'a> {
     // Writes a command.
     fn command(&mut self, command: &'a CommandNode) -> Expanding<()> {
         self.note_command(command)?;
+        self.note_send(command)?;
         self.writer.text.line(b"  ", command.at)?;
         self.writer.token(b"when", command.at)?;
         self.writer.expression(&command.guard, UNFOLDING)?;
@@ -268,6 +307,7 @@ impl<'a> Builder<'a> {
             constants: Vec::new(alloc),
             variables: Vec::new(alloc),
             commands: Vec::new(alloc),
+            sends: Vec::new(alloc),
         })?;
         self.items(process.items.as_slice(), REPEATS)?;
         self.note_constants(process)?;

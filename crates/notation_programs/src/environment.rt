@@ -84,6 +84,11 @@ impl<'a> Environment<'a> {
         Ok(environment)
     }
 
+    /// Whether the model has no types of variables.
+    pub(crate) fn has_no_types(&self) -> bool {
+        self.tables.types.is_empty()
+    }
+
     /// Takes a step, at this offset, so deep.
     pub(crate) fn step(&mut self, depth: u32, at: usize) -> Expanding<u32>
         ensures { IfOk result (λ inner. inner + 1 ≡ depth) }

@@ -12,10 +12,11 @@ use crate::environment::{Environment, member_values};
 use crate::plain_text::{Origin, map_of};
 use crate::writing::Writer;
 use dbg_base::{Choice, Pid, ProgFault};
+use notation_parser::parser::model;
+use notation_tree::arithmetic::ConstantValue;
 use notation_tree::fault::{Expanding, ExpansionStop, Fault, MemberValue, NotationError, Problem};
 use notation_tree::lexer::{first_wrong, tokens};
 use notation_tree::model::ParsedModel;
-use notation_tree::parser::model;
 use notation_tree::syntax::DeclarationNode;
 use std::alloc::{AllocError, Global};
 
@@ -217,8 +218,36 @@ impl Expansion {
     /// The name of a variable in the source, with its indices, as `vote[2]`; None if the program has no such variable.
     pub fn variable_name(&self, pid: Pid, variable: u32) -> Option<&[u8]> {
         let process = self.built.processes.get(pid.0 as usize)?;
-        let name = process.variables.get(variable as usize)?;
-        Some(name.as_slice())
+        let variable = process.variables.get(variable as usize)?;
+        Some(variable.name.as_slice())
+    }
+
+    /// The number of the type of a variable, if it has one.
+    pub fn variable_type(&self, pid: Pid, variable: u32) -> Option<usize> {
+        let process = self.built.processes.get(pid.0 as usize)?;
+        process.variables.get(variable as usize)?.kind
+    }
+
+    /// The number of the type that all messages from one process to another have, if there is one.
+    pub fn channel_type(&self, from: Pid, to: Pid) -> Option<usize> {
+        let processes = self.built.processes.as_slice();
+        let name = processes.get(to.0 as usize)?.name.as_slice();
+        let sends = processes.get(from.0 as usize)?.sends.as_slice();
+        let mut sent = sends.iter().filter(|sent| sent.target.as_slice() == name);
+        let kind = sent.next()?.kind;
+        if sent.all(|other| other.kind == kind) {
+            kind
+        } else {
+            None
+        }
+    }
+
+    /// The value of a constant of the model, by its number, if it is a number.
+    pub fn constant(&self, number: usize) -> Option<i64> {
+        match self.built.constants.get(number) {
+            Some(Some(ConstantValue::Number(value))) => Some(*value),
+            _ => None,
+        }
     }
 
     /// The offset in the source at which a command begins, and its label with its indices, as `hear[2]`. The label is empty if it has none.

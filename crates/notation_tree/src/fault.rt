@@ -14,7 +14,7 @@ pub enum Expected {
     Mark(Mark),
     Name,
     Expression,
-    /// `const`, `let` or `process`.
+    /// `const`, `let`, `enum`, `message` or `process`.
     Declaration,
     /// `const`, `let`, `var`, `when`, a label, `for` or `}`.
     Item,
@@ -22,6 +22,8 @@ pub enum Expected {
     When,
     /// `send`, `recv` or an assignment.
     Action,
+    /// `when` or `else`, or the label of a case.
+    Case,
     /// The end of the text.
     End,
 }
@@ -34,6 +36,8 @@ pub enum Meaning {
     Member,
     Parameter,
     Variable,
+    Type,
+    Field,
 }
 
 /// What is wrong.
@@ -71,6 +75,20 @@ pub enum Problem {
     DivisionByZero,
     /// An index, or a member that becomes a part of a name, is below 0.
     BelowZero,
+    /// No type has the name.
+    NoType,
+    /// The message, or else each message, has no such field.
+    NoField,
+    /// Several messages have the field, and what it is asked of is no variable with a type.
+    FieldOfSeveral,
+    /// The range of a field has no value.
+    EmptyRange,
+    /// A variable of one enum is set to a constant of another.
+    OtherEnum,
+    /// The guard of a case names the variable that the case receives.
+    ReadsReceived,
+    /// A case comes after `else`.
+    CaseAfterElse,
     /// Another command of the process has the label.
     LabelTaken,
     /// No command of the process has the label.

@@ -68,6 +68,23 @@ fn prefix(bytes: &[u8]) -> (SourceTokenKind, usize) {
     }
 }
 
+// Whether a `.` at this offset is between a name and the name of a field.
+fn is_before_field(text: &[u8], at: usize) -> bool {
+    let before = text.get(at.wrapping_sub(1)).copied().unwrap_or(b' ');
+    let after = text.get(at.saturating_add(1)).copied().unwrap_or(b' ');
+    (is_word_byte(before) || before == b']' || before == b')') && after.is_ascii_lowercase()
+}
+
+// What a token at this offset is. A `.` is only a mark before the name of a field.
+fn kind_at(text: &[u8], at: usize, kind: SourceTokenKind) -> SourceTokenKind {
+    match kind {
+        SourceTokenKind::Mark(Mark::Dot) if !is_before_field(text, at) => {
+            SourceTokenKind::Wrong(Problem::Byte)
+        }
+        _ => kind,
+    }
+}
+
 /// All tokens of a text, and `End` at the length of the text. What is no token is `Wrong`.
 pub fn tokens(alloc: Global, text: &[u8]) -> Result<Vec<SourceToken>, AllocError> {
     let mut tokens = Vec::new(alloc);
@@ -79,6 +96,7 @@ pub fn tokens(alloc: Global, text: &[u8]) -> Result<Vec<SourceToken>, AllocError
         }
         let at = text.len().saturating_sub(rest.len());
         let (kind, length) = prefix(rest);
+        let kind = kind_at(text, at, kind);
         tokens.push(SourceToken { at, length, kind })?;
         rest = rest.get(length..).unwrap_or(&[]);
     }
@@ -105,7 +123,7 @@ pub fn has_notation(tokens: &[SourceToken]) -> bool {
     tokens.iter().any(|token| {
         matches!(
             token.kind,
-            SourceTokenKind::Mark(Mark::OpenBracket | Mark::CloseBracket | Mark::Range)
+            SourceTokenKind::Mark(Mark::OpenBracket | Mark::CloseBracket | Mark::Range | Mark::Dot)
         )
     })
 }

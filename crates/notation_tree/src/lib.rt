@@ -1,6 +1,4 @@
-//! A text in the model notation, read: its tokens, its tree, and its faults.
-//!
-//! `tokens` divides a text into tokens, and `model` reads the tree of these. A `ModelParser` reads single parts, as a command line has them.
+//! What a text in the model notation is read as: its tokens, its tree, and its faults.
 #![tactic(auto)]
 
 pub mod arithmetic;
@@ -8,7 +6,7 @@ pub mod fault;
 pub mod lexer;
 pub mod limits;
 pub mod model;
-pub mod parser;
 pub mod scope;
 pub mod syntax;
 pub mod token;
+pub mod types;

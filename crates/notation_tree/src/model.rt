@@ -2,37 +2,42 @@
 
 use crate::scope::Binding;
 use crate::syntax::{DeclarationNode, Definition};
+use crate::types::{FieldName, TypeNode};
 use dbg_base::Name;
 use std::alloc::Global;
 
 /// A name that is visible in a whole process, or in the whole model.
 #[derive(Clone, Copy)]
 pub struct Visible {
-    pub(crate) name: Name,
-    pub(crate) binding: Binding,
+    pub name: Name,
+    pub binding: Binding,
     /// The number of the declaration in which it is visible, or None for the whole model.
-    pub(crate) declaration: Option<usize>,
+    pub declaration: Option<usize>,
 }
 
-/// What is numbered in a model: definitions, names of members, and how many constants and parameters there are.
+/// What is numbered in a model: definitions, names of members, types, and how many constants and parameters there are.
 #[derive(Drop)]
 pub struct Tables {
     pub definitions: Vec<Definition>,
     pub members: Vec<Name>,
     pub constants: usize,
-    pub(crate) parameters: usize,
+    pub parameters: usize,
     pub visible: Vec<Visible>,
+    pub types: Vec<TypeNode>,
+    pub fields: Vec<FieldName>,
 }
 
 impl Tables {
     /// Nothing.
-    pub(crate) fn new(alloc: Global) -> Tables {
+    pub fn new(alloc: Global) -> Tables {
         Tables {
             definitions: Vec::new(alloc),
             members: Vec::new(alloc),
             constants: 0,
             parameters: 0,
             visible: Vec::new(alloc),
+            types: Vec::new(alloc),
+            fields: Vec::new(alloc),
         }
     }
 }

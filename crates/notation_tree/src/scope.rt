@@ -1,30 +1,32 @@
 //! What names mean at a place of the text.
 
 use crate::fault::Meaning;
-use crate::model::Visible;
+use crate::model::{Tables, Visible};
+use crate::types::FieldName;
 use std::alloc::{AllocError, Global};
 use std::cmp::Ordering;
 use std::collections::BTreeMap;
 
-/// What a name means, with the number of the constant, definition, member or parameter. A definition has so many parameters, too.
+/// What a name means, with the number of the constant, definition, member or parameter. A definition has so many parameters, too. A variable
+/// may have a type.
 #[derive(Clone, Copy, PartialEq, Eq)]
 pub enum Binding {
     Constant(usize),
     Definition(usize, usize),
     Member(usize),
     Parameter(usize),
-    Variable,
+    Variable(Option<usize>),
 }
 
 impl Binding {
     /// What it is.
-    pub(crate) fn meaning(self) -> Meaning {
+    pub fn meaning(self) -> Meaning {
         match self {
             Binding::Constant(_) => Meaning::Constant,
             Binding::Definition(_, _) => Meaning::Definition,
             Binding::Member(_) => Meaning::Member,
             Binding::Parameter(_) => Meaning::Parameter,
-            Binding::Variable => Meaning::Variable,
+            Binding::Variable(_) => Meaning::Variable,
         }
     }
 
@@ -32,7 +34,7 @@ impl Binding {
     // to the process language.
     fn clashes(self, new: Binding) -> bool {
         match (self, new) {
-            (Binding::Variable, Binding::Variable) => false,
+            (Binding::Variable(_), Binding::Variable(_)) => false,
             (Binding::Parameter(_), Binding::Parameter(_)) => true,
             (Binding::Parameter(_), _) | (_, Binding::Parameter(_)) => false,
             _ => true,
@@ -52,6 +54,7 @@ struct Declared<'a> {
 pub struct ModelNames {
     // Sorted by their declarations, and then by their names.
     names: Vec<Visible>,
+    fields: Vec<FieldName>,
 }
 
 // Compares a name of a model with this name in this declaration.
@@ -64,10 +67,11 @@ fn order(one: &Visible, declaration: Option<usize>, name: &[u8]) -> Ordering {
 
 impl ModelNames {
     /// The names of a model.
-    pub fn new(alloc: Global, visible: &[Visible]) -> Result<ModelNames, AllocError> {
-        let mut names = Vec::from_slice(alloc, visible)?;
+    pub fn new(alloc: Global, tables: &Tables) -> Result<ModelNames, AllocError> {
+        let fields = Vec::from_slice(alloc, tables.fields.as_slice())?;
+        let mut names = Vec::from_slice(alloc, tables.visible.as_slice())?;
         names.sort_unstable_by(|one, other| order(one, other.declaration, other.name.bytes()));
-        Ok(ModelNames { names })
+        Ok(ModelNames { names, fields })
     }
 
     // What the name means in this declaration, or in the whole model.
@@ -86,6 +90,11 @@ impl ModelNames {
             None => self.find(name, Some(declaration?)),
         }
     }
+
+    /// The fields of all messages.
+    pub fn fields(&self) -> &[FieldName] {
+        self.fields.as_slice()
+    }
 }
 
 /// The names that are visible.
@@ -94,7 +103,7 @@ pub struct ModelScope<'a> {
     meanings: BTreeMap<&'a [u8], Binding>,
     declared: Vec<Declared<'a>>,
     // For a command line, the names of its model.
-    model: Option<&'a ModelNames>,
+    pub model: Option<&'a ModelNames>,
     /// The declaration of the process whose names are visible.
     pub process: Option<usize>,
 }
@@ -110,8 +119,8 @@ impl<'a> ModelScope<'a> {
         }
     }
 
-    /// What the name means.
-    pub(crate) fn meaning(&self, name: &[u8]) -> Option<Binding> {
+    /// What the name means. A variable is known to a command line only if it has a type.
+    pub fn meaning(&self, name: &[u8]) -> Option<Binding> {
         match self.meanings.get(name) {
             Some(binding) => Some(*binding),
             None => self.model?.meaning(name, self.process),
@@ -119,11 +128,7 @@ impl<'a> ModelScope<'a> {
     }
 
     /// Gives the name a meaning. The answer is what it means already, if it cannot have both.
-    pub(crate) fn declare(
-        &mut self,
-        name: &'a [u8],
-        new: Binding,
-    ) -> Result<Option<Meaning>, AllocError> {
+    pub fn declare(&mut self, name: &'a [u8], new: Binding) -> Result<Option<Meaning>, AllocError> {
         if let Some(old) = self.meaning(name) {
             if old.clashes(new) {
                 return Ok(Some(old.meaning()));

@@ -72,11 +72,12 @@ pub struct Each {
     pub body: Expression,
 }
 
-/// A constant: its number, and the expression of its value.
+/// A constant: its number, and the expression of its value. One that says how many values a field of a message has is above 0.
 #[derive(Drop)]
 pub struct Constant {
     pub number: usize,
     pub value: Expression,
+    pub is_width: bool,
 }
 
 /// A definition: the number of its first parameter, how many it has, and its expression.
@@ -87,13 +88,14 @@ pub struct Definition {
     pub body: Expression,
 }
 
-/// A variable, or a family of variables.
+/// A variable, or a family of variables, with the number of its type if it has one.
 #[derive(Drop)]
 pub struct VariableNode {
     pub at: usize,
     pub name_at: usize,
     pub name: Name,
     pub ranges: Vec<Binder>,
+    pub kind: Option<usize>,
     pub value: Expression,
 }
 
@@ -120,7 +122,7 @@ pub struct Label {
     pub name: Name,
 }
 
-/// A command, with the offsets of `when`, `:` and `;`.
+/// A command, with the offsets of `when`, `:` and `;`, and the number of the message type of what it sends, if that has one.
 #[derive(Drop)]
 pub struct CommandNode {
     pub label: Option<Label>,
@@ -128,6 +130,7 @@ pub struct CommandNode {
     pub guard: Expression,
     pub colon: usize,
     pub action: ActionNode,
+    pub sent: Option<usize>,
     pub assignments: Vec<AssignmentNode>,
     pub end: usize,
 }
@@ -181,7 +184,7 @@ pub fn place(expression: &Expression) -> usize {
 }
 
 /// The expression in parentheses that open at this offset.
-pub(crate) fn enclosed(expression: Expression, at: usize) -> Expression {
+pub fn enclosed(expression: Expression, at: usize) -> Expression {
     match expression {
         Expression::Not(_, operand) => Expression::Not(at, operand),
         Expression::Negate(_, operand) => Expression::Negate(at, operand),

@@ -5,7 +5,7 @@ ghost use Rattle.dbg_base.specs.Tokens.{is_space, is_word_byte};
 
 use crate::fault::Problem;
 
-/// A mark of the notation: those of the process language, and `[`, `]` and `..`.
+/// A mark of the notation: those of the process language, and `[`, `]`, `..` and the `.` before a field of a message.
 #[derive(Clone, Copy, PartialEq, Eq)]
 pub enum Mark {
     OpenBrace,
@@ -30,6 +30,7 @@ pub enum Mark {
     Slash,
     Percent,
     Range,
+    Dot,
 }
 
 /// What a token is.
@@ -73,12 +74,13 @@ pub fn part(text: &[u8], at: usize, length: usize) -> &[u8] {
 }
 
 /// The marks as they are written. A mark that begins another one is after it.
-pub(crate) const MARKS: [(&str, Mark); 22] = [
+pub(crate) const MARKS: [(&str, Mark); 23] = [
     (":=", Mark::Becomes),
     ("!=", Mark::NotEquals),
     ("<=", Mark::AtMost),
     (">=", Mark::AtLeast),
     ("..", Mark::Range),
+    (".", Mark::Dot),
     ("{", Mark::OpenBrace),
     ("}", Mark::CloseBrace),
     ("(", Mark::OpenParenthesis),

@@ -27,16 +27,24 @@ fn fault_kind(problem: Problem) -> FaultKind {
         Problem::Expected(_)
         | Problem::ComparisonChain
         | Problem::FormName
+        | Problem::CaseAfterElse
         | Problem::Arguments { .. } => FaultKind::Grammar,
         Problem::NameTaken(_) | Problem::LabelTaken => FaultKind::NameTaken,
-        Problem::NotADefinition | Problem::NoLabel => FaultKind::NameUnknown,
+        Problem::NotADefinition
+        | Problem::NoType
+        | Problem::NoField
+        | Problem::FieldOfSeveral
+        | Problem::NoLabel => FaultKind::NameUnknown,
         Problem::VariableComputed
         | Problem::CountComputed
         | Problem::NumberExpected
-        | Problem::TruthExpected => FaultKind::TypeWrong,
+        | Problem::TruthExpected
+        | Problem::OtherEnum
+        | Problem::ReadsReceived => FaultKind::TypeWrong,
         Problem::Overflow
         | Problem::DivisionByZero
         | Problem::BelowZero
+        | Problem::EmptyRange
         | Problem::ManyParameters
         | Problem::DeepNesting
         | Problem::DeepUnfolding

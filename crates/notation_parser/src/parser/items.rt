@@ -2,15 +2,14 @@
 
 use super::expressions::is_form;
 use super::{Level, ModelParser};
-use crate::fault::{Expanding, ExpansionStop, Expected, Problem};
-use crate::limits::{NESTING, PARAMETERS, REPEATS};
-use crate::model::ParsedModel;
-use crate::scope::{Binding, ModelScope};
-use crate::syntax::{
-    ActionNode, AssignmentNode, Binder, CommandNode, Constant, DeclarationNode, Definition,
-    Expression, ItemNode, Label, ProcessNode, Reference, VariableNode,
+use notation_tree::fault::{Expanding, ExpansionStop, Expected, Problem};
+use notation_tree::limits::{NESTING, PARAMETERS, REPEATS};
+use notation_tree::model::ParsedModel;
+use notation_tree::scope::{Binding, ModelScope};
+use notation_tree::syntax::{
+    Binder, Constant, DeclarationNode, Definition, Expression, ItemNode, ProcessNode, VariableNode,
 };
-use crate::token::{Mark, SourceToken};
+use notation_tree::token::{Mark, SourceToken};
 use std::alloc::Global;
 
 // Items in braces, with the offsets of these.
@@ -36,7 +35,11 @@ impl<'a> ModelParser<'a> {
         let number = self.tables.constants;
         self.tables.constants = number.saturating_add(1);
         self.declare(&name, Binding::Constant(number))?;
-        Ok(Constant { number, value })
+        Ok(Constant {
+            number,
+            value,
+            is_width: false,
+        })
     }
 
     // The parameters of a definition, in parentheses, if it has any. The answer is how many there are.
@@ -95,11 +98,19 @@ impl<'a> ModelParser<'a> {
         Ok(binder)
     }
 
-    // The ranges and the value of a variable.
-    fn ranges_and_value(&mut self) -> Expanding<(Vec<Binder>, Expression)> {
-        let ranges = self.ranges()?;
+    // The type and the value of a variable.
+    fn kind_and_value(&mut self) -> Expanding<(Option<usize>, Expression)> {
+        let kind = self.kind()?;
         let value = self.value()?;
-        Ok((ranges, value))
+        self.check_enum(kind, &value)?;
+        Ok((kind, value))
+    }
+
+    // The ranges, the type and the value of a variable.
+    fn ranges_and_value(&mut self) -> Expanding<(Vec<Binder>, Option<usize>, Expression)> {
+        let ranges = self.ranges()?;
+        let (kind, value) = self.kind_and_value()?;
+        Ok((ranges, kind, value))
     }
 
     // A variable, or a family of variables.
@@ -109,7 +120,7 @@ impl<'a> ModelParser<'a> {
         let name = self.name()?;
         let mark = self.scope.mark();
         self.repeats = self.repeats.saturating_add(1);
-        let (ranges, value) = self.ranges_and_value()?;
+        let (ranges, kind, value) = self.ranges_and_value()?;
         self.repeats = self.repeats.saturating_sub(1);
         self.scope.leave(mark);
         let variable = VariableNode {
@@ -117,114 +128,11 @@ impl<'a> ModelParser<'a> {
             name_at: name.at,
             name: name.name,
             ranges,
+            kind,
             value,
         };
-        self.declare(&name, Binding::Variable)?;
+        self.declare(&name, Binding::Variable(kind))?;
         Ok(variable)
-    }
-
-    // An assignment.
-    fn assignment(&mut self) -> Expanding<AssignmentNode> {
-        if !self.is_name() {
-            return Err(self.unexpected(Expected::Action));
-        }
-        let target = self.reference(NESTING)?;
-        let (at, value) = self.assigned()?;
-        Ok(AssignmentNode { target, at, value })
-    }
-
-    // The value of an assignment, and the offset of `:=` before it.
-    fn assigned(&mut self) -> Expanding<(usize, Expression)> {
-        let at = self.mark(Mark::Becomes)?;
-        Ok((at, self.expression()?))
-    }
-
-    // A send or a receive, if there is one.
-    fn action(&mut self) -> Expanding<ActionNode> {
-        let at = self.at();
-        if self.passes_word(b"send") {
-            let target = self.reference(NESTING)?;
-            let value = self.expression()?;
-            return Ok(ActionNode::Send(at, target, value));
-        }
-        if self.passes_word(b"recv") {
-            let source = self.reference(NESTING)?;
-            let variable = self.reference(NESTING)?;
-            return Ok(ActionNode::Receive(at, source, variable));
-        }
-        Ok(ActionNode::Local)
-    }
-
-    // The assignments of a command: after commas, and the first one too where there is an action before it.
-    fn assignments(&mut self, action: &ActionNode) -> Expanding<Vec<AssignmentNode>> {
-        let mut assignments = Vec::new(self.alloc);
-        if matches!(action, ActionNode::Local) {
-            assignments.push(self.assignment()?)?;
-        }
-        for _ in self.next..self.tokens.len() {
-            if !self.passes_mark(Mark::Comma) {
-                break;
-            }
-            assignments.push(self.assignment()?)?;
-        }
-        Ok(assignments)
-    }
-
-    // A guard, and the offset of the colon after it.
-    fn guard(&mut self) -> Expanding<(Expression, usize)> {
-        let guard = self.expression()?;
-        let colon = self.mark(Mark::Colon)?;
-        Ok((guard, colon))
-    }
-
-    // What a command does, and the offset of the `;` after it.
-    fn effect(&mut self) -> Expanding<(ActionNode, Vec<AssignmentNode>, usize)> {
-        let action = self.action()?;
-        let (assignments, end) = self.ended_assignments(&action)?;
-        Ok((action, assignments, end))
-    }
-
-    // The assignments of a command, and the offset of the `;` after them.
-    fn ended_assignments(
-        &mut self,
-        action: &ActionNode,
-    ) -> Expanding<(Vec<AssignmentNode>, usize)> {
-        let assignments = self.assignments(action)?;
-        let end = self.mark(Mark::Semicolon)?;
-        Ok((assignments, end))
-    }
-
-    // A command, which may have a label.
-    fn command(&mut self, label: Option<Label>) -> Expanding<CommandNode> {
-        let at = self.at();
-        self.pass();
-        let (guard, colon) = self.guard()?;
-        let (action, assignments, end) = self.effect()?;
-        Ok(CommandNode {
-            label,
-            at,
-            guard,
-            colon,
-            action,
-            assignments,
-            end,
-        })
-    }
-
-    // A label, and its command.
-    fn labelled(&mut self) -> Expanding<CommandNode> {
-        if !self.is_name() || !self.has_mark_after(1, Mark::Colon) {
-            return Err(self.unexpected(Expected::Item));
-        }
-        let name = self.name()?;
-        self.mark(Mark::Colon)?;
-        if !self.is_word(b"when") {
-            return Err(self.unexpected(Expected::When));
-        }
-        self.command(Some(Label {
-            at: name.at,
-            name: name.name,
-        }))
     }
 
     // `for`, its member and its items, where so many `for` may still be open.
@@ -252,22 +160,25 @@ impl<'a> ModelParser<'a> {
         Ok(Block { open, items, close })
     }
 
-    // An item that is no definition.
+    // An item, which is appended to those before it.
     #[cycle(items)]
-    fn item(&mut self, depth: u32) -> Expanding<ItemNode> {
+    fn item(&mut self, items: &mut Vec<ItemNode>, depth: u32) -> Expanding<()> {
+        if self.is_word(b"let") {
+            return self.definition();
+        }
         if self.is_word(b"const") {
-            return Ok(ItemNode::Constant(self.constant()?));
+            items.push(ItemNode::Constant(self.constant()?))?;
+            return Ok(());
         }
         if self.is_word(b"var") {
-            return Ok(ItemNode::Variable(self.variable()?));
-        }
-        if self.is_word(b"when") {
-            return Ok(ItemNode::Command(self.command(None)?));
+            items.push(ItemNode::Variable(self.variable()?))?;
+            return Ok(());
         }
         if self.is_word(b"for") {
-            return self.repeat(depth);
+            items.push(self.repeat(depth)?)?;
+            return Ok(());
         }
-        Ok(ItemNode::Command(self.labelled()?))
+        self.commands(items)
     }
 
     // All items up to a `}`.
@@ -278,11 +189,7 @@ impl<'a> ModelParser<'a> {
             if self.is_mark(Mark::CloseBrace) {
                 break;
             }
-            if self.is_word(b"let") {
-                self.definition()?;
-            } else {
-                items.push(self.item(depth)?)?;
-            }
+            self.item(&mut items, depth)?;
         }
         Ok(items)
     }
@@ -312,13 +219,25 @@ impl<'a> ModelParser<'a> {
         })
     }
 
-    // A declaration that is no definition; so many are before it.
-    fn declaration(&mut self, number: usize) -> Expanding<DeclarationNode> {
+    // A declaration, whose constants and process are appended to those before it.
+    fn declaration(&mut self, declarations: &mut Vec<DeclarationNode>) -> Expanding<()> {
+        if self.is_word(b"let") {
+            return self.definition();
+        }
+        if self.is_word(b"enum") {
+            return self.enumeration(declarations);
+        }
+        if self.is_word(b"message") {
+            return self.message(declarations);
+        }
         if self.is_word(b"const") {
-            return Ok(DeclarationNode::Constant(self.constant()?));
+            declarations.push(DeclarationNode::Constant(self.constant()?))?;
+            return Ok(());
         }
         if self.is_word(b"process") {
-            return Ok(DeclarationNode::Process(self.process(number)?));
+            let process = self.process(declarations.len())?;
+            declarations.push(DeclarationNode::Process(process))?;
+            return Ok(());
         }
         Err(self.unexpected(Expected::Declaration))
     }
@@ -330,12 +249,7 @@ impl<'a> ModelParser<'a> {
             if self.is_at_end() {
                 break;
             }
-            if self.is_word(b"let") {
-                self.definition()?;
-            } else {
-                let number = declarations.len();
-                declarations.push(self.declaration(number)?)?;
-            }
+            self.declaration(&mut declarations)?;
         }
         Ok(declarations)
     }

@@ -1,16 +1,20 @@
 //! From tokens to a model, one token at a time.
 
+mod commands;
 mod expressions;
+mod fields;
 mod items;
+mod messages;
+mod types;
 
-use crate::fault::{Expanding, ExpansionStop, Expected, Problem};
-use crate::limits::NESTING;
-use crate::model::{Tables, Visible};
-use crate::scope::{Binding, ModelScope};
-use crate::syntax::Expression;
-use crate::token::{Mark, SourceToken, SourceTokenKind, part};
 use dbg_base::{Name, Operator};
 pub use items::model;
+use notation_tree::fault::{Expanding, ExpansionStop, Expected, Problem};
+use notation_tree::limits::NESTING;
+use notation_tree::model::{Tables, Visible};
+use notation_tree::scope::{Binding, ModelScope};
+use notation_tree::syntax::Expression;
+use notation_tree::token::{Mark, SourceToken, SourceTokenKind, part};
 use std::alloc::Global;
 
 /// The precedences of operators, weakest first; `not` is between `And` and `Comparison`.
@@ -225,7 +229,7 @@ impl<'a> ModelParser<'a> {
         if let Some(old) = self.scope.declare(bytes, new)? {
             return Err(ExpansionStop::Bad(Problem::NameTaken(old), name.at));
         }
-        if self.repeats == 0 && !matches!(new, Binding::Variable | Binding::Parameter(_)) {
+        if self.repeats == 0 && !matches!(new, Binding::Variable(None) | Binding::Parameter(_)) {
             self.tables.visible.push(Visible {
                 name: name.name,
                 binding: new,

@@ -1,5 +1,5 @@
 use Rattle.std.proofs.Common.{◌+◌, ◌*◌}
-use Rattle.notation_tree.proofs.parser.ModelParser.+items.Given as goal
+use Rattle.notation_parser.proofs.parser.ModelParser.+items.Given as goal
 
 abbrev pub decreases-items : goal.decreases-items
 decreases-items l = l.depth * 4 + 2

@@ -1,6 +1,6 @@
 use Rattle.std.proofs.Common.{◌+◌, ◌*◌}
-use Rattle.notation_tree.specs.Levels.{rank}
-use Rattle.notation_tree.proofs.parser.ModelParser.+expressions.Given as goal
+use Rattle.notation_parser.specs.Levels.{rank}
+use Rattle.notation_parser.proofs.parser.ModelParser.+expressions.Given as goal
 
 abbrev pub decreases-chain : goal.decreases-chain
 decreases-chain l = l.depth * 64 + rank l.level + 3

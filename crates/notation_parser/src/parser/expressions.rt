@@ -3,11 +3,11 @@
 ghost use Rattle.std.specs.Prelude.{◌≡◌, ◌+◌, IfOk};
 
 use super::{Level, ModelParser, Written, is_reserved};
-use crate::fault::{Expanding, ExpansionStop, Expected, Problem};
-use crate::scope::Binding;
-use crate::syntax::{Binder, Each, Expression, FormNode, Link, Reference, enclosed};
-use crate::token::{Mark, SourceTokenKind};
 use dbg_base::{Direction, Operator};
+use notation_tree::fault::{Expanding, ExpansionStop, Expected, Problem};
+use notation_tree::scope::Binding;
+use notation_tree::syntax::{Binder, Each, Expression, FormNode, Link, Reference, enclosed};
+use notation_tree::token::{Mark, SourceTokenKind};
 
 // The form that a word begins.
 fn form_of(word: &[u8]) -> Option<FormNode> {
@@ -197,7 +197,8 @@ impl<'a> ModelParser<'a> {
         }
         if !self.has_mark_after(1, Mark::OpenParenthesis) {
             let reference = self.reference(depth)?;
-            return self.looked_up(reference, word);
+            let meant = self.looked_up(reference, word)?;
+            return self.field_of(meant);
         }
         match form_of(word) {
             Some(form) => self.each(form, depth),
@@ -229,7 +230,7 @@ impl<'a> ModelParser<'a> {
                 check_arguments(wanted, 0, at)?;
                 Ok(Expression::Call(at, number, Vec::new(self.alloc)))
             }
-            Some(Binding::Variable) | None => Ok(Expression::Name(reference)),
+            Some(Binding::Variable(_)) | None => Ok(Expression::Name(reference)),
         }
     }
 
@@ -369,7 +370,7 @@ impl<'a> ModelParser<'a> {
 
     // The bounds of a range.
     #[cycle(expressions)]
-    fn range(&mut self, depth: u32) -> Expanding<(Expression, Expression)> {
+    pub(super) fn range(&mut self, depth: u32) -> Expanding<(Expression, Expression)> {
         let low = self.closed(Level::Sum, depth, Mark::Range)?;
         let high = self.chain(Level::Sum, depth)?;
         Ok((low, high))

@@ -1,0 +1,74 @@
+//! Fields of messages in expressions.
+
+use super::ModelParser;
+use dbg_base::Name;
+use notation_tree::fault::{Expanding, ExpansionStop, Problem};
+use notation_tree::scope::Binding;
+use notation_tree::syntax::{Expression, Reference, place};
+use notation_tree::token::Mark;
+use notation_tree::types::{FieldName, TypeNode};
+
+// The definition of the field of this name in this message, or in the only message that has it.
+fn find_field(fields: &[FieldName], name: &Name, message: Option<usize>) -> Result<usize, Problem> {
+    let mut found = None;
+    for field in fields {
+        let is_wanted = message.is_none_or(|number| number == field.message);
+        if is_wanted && field.name.bytes() == name.bytes() {
+            if found.is_some() {
+                return Err(Problem::FieldOfSeveral);
+            }
+            found = Some(field.definition);
+        }
+    }
+    found.ok_or(Problem::NoField)
+}
+
+impl<'a> ModelParser<'a> {
+    // The type that a variable is declared with.
+    pub(super) fn type_of(&self, reference: &Reference) -> Option<usize> {
+        match self.scope.meaning(reference.name.bytes()) {
+            Some(Binding::Variable(kind)) => kind,
+            _ => None,
+        }
+    }
+
+    // The type of an expression: that of the variable that it is, of the constant of an enum, or of the message that it packs.
+    pub(super) fn kind_of(&self, expression: &Expression) -> Option<usize> {
+        match expression {
+            Expression::Name(reference) => self.type_of(reference),
+            Expression::Constant(_, number) => self.enum_of(*number),
+            Expression::Call(_, number, _) => self.tables.types.iter().position(|node| {
+                matches!(node, TypeNode::Message(message) if message.definition == *number)
+            }),
+            _ => None,
+        }
+    }
+
+    // The fields of all messages.
+    fn fields(&self) -> &[FieldName] {
+        match self.scope.model {
+            Some(model) => model.fields(),
+            None => self.tables.fields.as_slice(),
+        }
+    }
+
+    // An expression, or the field of it whose name follows after a `.`.
+    pub(super) fn field_of(&mut self, expression: Expression) -> Expanding<Expression> {
+        if !self.passes_mark(Mark::Dot) {
+            return Ok(expression);
+        }
+        let name = self.name()?;
+        let message = match &expression {
+            Expression::Name(reference) => self.type_of(reference),
+            _ => None,
+        };
+        let definition = match find_field(self.fields(), &name.name, message) {
+            Ok(definition) => definition,
+            Err(problem) => return Err(ExpansionStop::Bad(problem, name.at)),
+        };
+        let at = place(&expression);
+        let mut arguments = Vec::new(self.alloc);
+        arguments.push(expression)?;
+        Ok(Expression::Call(at, definition, arguments))
+    }
+}
