@@ -14,13 +14,15 @@ syntax match rdbgOperator ":=\|!=\|<=\|>=\|[-+*/%<>=]"
 syntax match rdbgProcessName "\%(\<process\s\+\)\@<=[a-z][a-z0-9_]*"
 " A byte that begins no token.
 syntax match rdbgFault "[^-a-z0-9_{}()[\];:,=!<>+*/% \t]"
+syntax match rdbgField "[])a-z0-9_]\@<=\.\ze[a-z]"
 
 " The model notation. Its words are not reserved: each is one only in its place.
-syntax match rdbgNotation "\<\%(const\|let\)\>\ze\s\+[a-z]"
+syntax match rdbgNotation "\<\%(const\|let\|enum\|message\)\>\ze\s\+[a-z]"
+syntax match rdbgNotation "\<else\>\ze\s*:"
 syntax match rdbgNotation "\<\%(for\)\>\ze\s\+[a-z][a-z0-9_]*\s*:"
 syntax match rdbgNotation "\%([])a-z0-9_]\s\+\)\@<=\<\%(where\)\>\ze\s\+[-(a-z0-9]"
 syntax match rdbgNotationForm "\<\%(all\|some\|sum\|at_least\)\>\ze\s*("
-syntax match rdbgLabel "\<[a-z][a-z0-9_]*\>\ze\s*:\s*when\>"
+syntax match rdbgLabel "\<[a-z][a-z0-9_]*\>\ze\s*:\s*\%(when\|else\)\>"
 syntax match rdbgRange "\.\."
 syntax match rdbgComment "#.*$" contains=@Spell
 
@@ -34,7 +36,7 @@ syntax match rdbgCommand "\%(\%(^\s*\|\s:\s\+\)\%(\d\+\s\+\)\?\|;\s\+\|\<batch\s
 syntax match rdbgQuestion "\%(\%(^\s*\|\s:\s\+\)\%(\d\+\s\+\)\?\)\@<=\%(vars\|chan\|clock\|place\|can\|cut\|why\|breaks\)\>" contained
 syntax match rdbgOwnWord "\%(^\s*\)\@<=\%(help\|on\|list\|state\|line\|draw\|session\|quit\|exit\|q\)\>" contained
 syntax match rdbgBetween "\s\zs;\ze\s" contained
-syntax region rdbgPredicate start="(" end=")" oneline contained contains=rdbgPredicate,rdbgTruth,rdbgOperatorWord,rdbgCount,rdbgNumber,rdbgOperator,rdbgNotation,rdbgNotationForm,rdbgRange
+syntax region rdbgPredicate start="(" end=")" oneline contained contains=rdbgPredicate,rdbgTruth,rdbgOperatorWord,rdbgCount,rdbgNumber,rdbgOperator,rdbgNotation,rdbgNotationForm,rdbgRange,rdbgField
 
 syntax sync fromstart
 
@@ -50,6 +52,7 @@ highlight default link rdbgNotation Keyword
 highlight default link rdbgNotationForm Function
 highlight default link rdbgLabel Label
 highlight default link rdbgRange Operator
+highlight default link rdbgField Operator
 highlight default link rdbgFault Error
 highlight default link rdbgEnd PreProc
 highlight default link rdbgComment Comment
