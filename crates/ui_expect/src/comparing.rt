@@ -4,12 +4,7 @@ ghost use Rattle.std.specs.Prelude.{◌≡◌, None, is_none};
 ghost use Rattle.ui_expect.specs.Tests.{has_reply, are_met, expected_count};
 ghost use Rattle.ui_expect.specs.declared.comparing.PlayedLine.TheVariants.{Unanswered};
 
-/// A reply as it is shown, with plain names, and as a run writes it: they differ in the labels of commands.
-#[derive(Drop)]
-pub struct ReplyForms {
-    pub shown: Vec<u8>,
-    pub plain: Vec<u8>,
-}
+use ui_repl::ReplyForms;
 
 /// A line of a session that was played.
 #[derive(Drop)]
@@ -18,7 +13,7 @@ pub enum PlayedLine {
     Remark,
     /// A line without a reply, or whose reply no line expects.
     Unanswered,
-    /// A line with this reply as its last one, in two forms.
+    /// A line with this reply as its last one.
     Answered(ReplyForms),
     /// A line `> REPLY`, which gives this reply as the expected one.
     Expected(Vec<u8>),
@@ -33,14 +28,12 @@ pub struct Comparison {
     pub compared: usize,
 }
 
-/// Whether the line before this expected reply has it, in one of its forms.
-pub(crate) fn is_reply_to(before: &PlayedLine, wanted: &[u8]) -> bool
+// Whether the line before this expected reply has it, in one of its forms.
+fn is_reply_to(before: &PlayedLine, wanted: &[u8]) -> bool
     ensures { result ≡ has_reply before.now wanted.now }
 {
     match before {
-        PlayedLine::Answered(reply) => {
-            reply.shown.as_slice() == wanted || reply.plain.as_slice() == wanted
-        }
+        PlayedLine::Answered(reply) => reply.has(wanted),
         PlayedLine::Remark | PlayedLine::Unanswered | PlayedLine::Expected(_) => false,
     }
 }

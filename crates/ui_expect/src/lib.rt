@@ -10,7 +10,7 @@ mod reports;
 mod tap;
 mod testing;
 
-pub use comparing::{Comparison, PlayedLine, ReplyForms, compare};
+pub use comparing::{Comparison, PlayedLine, compare};
 pub use filling::fill_session;
 pub use replaying::{ReplayNames, Replayed, replay};
 pub use tap::{write_plan, write_result};

@@ -2,7 +2,7 @@
 
 ghost use Rattle.shell_serve.specs.Spans.{EndsWith};
 
-use crate::comparing::{PlayedLine, ReplyForms, compare, is_reply_to};
+use crate::comparing::{PlayedLine, compare};
 use crate::explanation::LastExplanation;
 use crate::reports::{begin_refusal, begin_report, put_replies, tell_long_session};
 use dbg_base::Call;
@@ -12,9 +12,9 @@ use shell_print::{ServeFault, Served};
 use std::alloc::{AllocError, Global};
 use ui_repl::{
     AnsweredLine, ExpandedLine, LineFault, LineWords, OpenSession, Opening, PlayedSession,
-    WrittenProgram, open, wanted, write_notes, write_text,
+    ReplyForms, WrittenProgram, open, wanted, write_notes, write_text,
 };
-use ui_session::{Room, Typed, plain_text};
+use ui_session::{Room, Typed};
 use ui_text::{Notes, Part};
 use ui_view::{Echo, Explainer};
 
@@ -37,11 +37,11 @@ struct AskedLine {
     reply: Option<LastReply>,
 }
 
-// The last reply to a line, as it is shown and as a run writes it.
+// The last reply to a line as it is shown, and its forms.
 #[derive(Drop)]
 struct LastReply {
     shown: Vec<u8>,
-    plain: Vec<u8>,
+    forms: ReplyForms,
 }
 
 // Compares the replies of a session with the expected ones, line by line.
@@ -49,8 +49,7 @@ struct Tester<'a> {
     explanation: LastExplanation<'a>,
     alloc: Global,
     name: &'a str,
-    // Whether the session is in the model notation.
-    is_model: bool,
+    written: &'a WrittenProgram,
     // The number of the present line in the input.
     number: usize,
     asked: AskedLine,
@@ -65,7 +64,7 @@ impl Drop for Tester<'_> {
             explanation: _,
             alloc: _,
             name: _,
-            is_model: _,
+            written: _,
             number: _,
             asked: _,
             lines: _,
@@ -81,7 +80,7 @@ impl<'a> Tester<'a> {
             explanation: LastExplanation::new(alloc, written),
             alloc,
             name,
-            is_model: written.text().is_model(),
+            written,
             number,
             asked: AskedLine {
                 number,
@@ -112,23 +111,6 @@ impl<'a> Tester<'a> {
         Ok(notes)
     }
 
-    // A reply with plain names, if the session is in the model notation.
-    fn plain(&self, reply: &[u8]) -> Result<Vec<u8>, AllocError> {
-        if self.is_model {
-            plain_text(self.alloc, reply)
-        } else {
-            Vec::from_slice(self.alloc, reply)
-        }
-    }
-
-    // The forms of a reply, with plain names.
-    fn forms(&self, reply: &LastReply) -> Result<ReplyForms, AllocError> {
-        Ok(ReplyForms {
-            shown: self.plain(reply.shown.as_slice())?,
-            plain: Vec::from_slice(self.alloc, reply.plain.as_slice())?,
-        })
-    }
-
     // Keeps the first report.
     fn report(&mut self, report: Notes) {
         if self.report.is_none() {
@@ -138,22 +120,21 @@ impl<'a> Tester<'a> {
 
     // The line expects this reply.
     fn expect(&mut self, line: &[u8], wanted: &[u8]) -> Result<(), AllocError> {
+        let expected = self.written.comparable(self.alloc, wanted)?;
         match self.asked.reply.take() {
-            Some(reply) => {
-                let before = PlayedLine::Answered(self.forms(&reply)?);
-                if !is_reply_to(&before, self.plain(wanted)?.as_slice()) {
-                    let report = self.tell_difference(wanted, reply.shown.as_slice())?;
+            Some(LastReply { shown, forms }) => {
+                if !forms.has(expected.as_slice()) {
+                    let report = self.tell_difference(wanted, shown.as_slice())?;
                     self.report(report);
                 }
-                self.lines.push(before)?;
+                self.lines.push(PlayedLine::Answered(forms))?;
             }
             None => {
                 let report = self.tell_misplaced(line)?;
                 self.report(report);
             }
         }
-        let wanted = self.plain(wanted)?;
-        Ok(self.lines.push(PlayedLine::Expected(wanted))?)
+        Ok(self.lines.push(PlayedLine::Expected(expected))?)
     }
 
     // A line begins, or one that is not played.
@@ -211,7 +192,7 @@ impl Explainer<Option<LineFault>> for Tester<'_> {
     fn explain(&mut self, line: &AnsweredLine<'_>, _notes: &mut Notes) -> Result<(), AllocError> {
         self.asked.reply = Some(LastReply {
             shown: Vec::from_slice(self.alloc, line.replies.shown)?,
-            plain: Vec::from_slice(self.alloc, line.replies.plain)?,
+            forms: self.written.forms_of(self.alloc, line.replies)?,
         });
         self.explanation.explain(line)
     }
@@ -246,8 +227,7 @@ fn test_open<'a, R: Source + Typed>(
 /// Plays the session of this name, which may be in the model notation. Writes a report: how many replies were compared, or the first that
 /// was not the expected one, with its explanation. A line `> REPLY` gives the expected reply to the command line before it, in a model with
 /// the names and labels of its author or as a run writes it; between the two there are only comments and blank lines. A program that is
-/// refused, and input that is too long, are reported as an interactive session
-/// reports them.
+/// refused, and input that is too long, are reported as an interactive session reports them.
 pub fn test_session<R: Source + Typed, W: Sink>(
     alloc: Global,
     name: &str,

@@ -4,6 +4,7 @@ ghost use Rattle.shell_serve.specs.Spans.{EndsWith};
 
 use crate::opening::OpenSession;
 use crate::read_line::{AnsweredLine, ExpandedLine, LineFault};
+use crate::reply_forms::ReplyForms;
 use crate::words::wanted;
 use crate::written_program::{ReadText, WrittenProgram, read_text};
 use notation::{Fault, message};
@@ -11,7 +12,7 @@ use shell_io::{Sink, Source};
 use shell_print::{ServeFault, Served, hand_on, tell_too_long, write_whole};
 use shell_serve::{Input, TextEnd, read_program_text, text_alone};
 use std::alloc::{AllocError, Global};
-use ui_session::{Typed, plain_text};
+use ui_session::Typed;
 use ui_text::{Notes, Part};
 use ui_view::{Echo, Explainer};
 
@@ -58,18 +59,17 @@ pub(crate) fn write_fault<W: Sink>(
 
 // The lines that are played, and what is wrong with the first that cannot be expanded.
 #[derive(Drop)]
-struct Expander {
+struct Expander<'a> {
     text: Vec<u8>,
-    is_model: bool,
-    // The last reply, as it is shown with plain names, and as a run writes it.
-    shown: Vec<u8>,
-    plain: Vec<u8>,
+    written: &'a WrittenProgram,
+    // The last reply in a model.
+    reply: Option<ReplyForms>,
     // How many lines were read.
     count: usize,
     fault: Option<Notes>,
 }
 
-impl Expander {
+impl Expander<'_> {
     // Appends a line. Of a model, comments are left out.
     fn put(&mut self, line: &ExpandedLine<'_>) -> Result<(), AllocError> {
         let Some(played) = line.played else {
@@ -80,42 +80,36 @@ impl Expander {
             self.fault = Some(fault_notes(alloc, self.count, played, &fault.fault)?);
         }
         let is_comment = played.trim_ascii_start().first() == Some(&b'#');
-        if self.is_model && is_comment {
+        if self.written.text().is_model() && is_comment {
             return Ok(self.text.push(b'\n')?);
         }
-        if self.expects_shown(played)? {
-            self.text.extend_from_slice(b"> ")?;
-            self.text.extend_from_slice(self.plain.as_slice())?;
-        } else {
-            self.text.extend_from_slice(played)?;
-        }
+        self.put_played(played)?;
         Ok(self.text.push(b'\n')?)
     }
 
-    // Whether a line of a model expects the last reply, and has not the form in which a run writes it.
-    fn expects_shown(&self, line: &[u8]) -> Result<bool, AllocError> {
-        match wanted(line) {
-            Some(wanted)
-                if self.is_model && !wanted.is_empty() && wanted != self.plain.as_slice() => {
-                let wanted = plain_text(*self.text.allocator(), wanted)?;
-                let wanted = wanted.as_slice();
-                Ok(wanted == self.shown.as_slice() || wanted == self.plain.as_slice())
+    // Appends a line as it is played, without a line end. The last reply, where a line expects it, has the form in which a run writes it.
+    fn put_played(&mut self, line: &[u8]) -> Result<(), AllocError> {
+        if let (Some(wanted), Some(reply)) = (wanted(line), &self.reply) {
+            let wanted = self.written.comparable(*self.text.allocator(), wanted)?;
+            if reply.has(wanted.as_slice()) {
+                self.text.extend_from_slice(b"> ")?;
+                self.text.extend_from_slice(reply.plain.as_slice())?;
+                return Ok(());
             }
-            _ => Ok(false),
         }
+        Ok(self.text.extend_from_slice(line)?)
     }
 }
 
-impl Explainer<Option<LineFault>> for Expander {
+impl Explainer<Option<LineFault>> for Expander<'_> {
     fn keeps_replies(&self) -> bool {
-        self.is_model
+        self.written.text().is_model()
     }
 
     fn explain(&mut self, line: &AnsweredLine<'_>, _notes: &mut Notes) -> Result<(), AllocError> {
-        if self.is_model {
-            self.shown = plain_text(*self.text.allocator(), line.replies.shown)?;
-            self.plain.clear();
-            self.plain.extend_from_slice(line.replies.plain)?;
+        if self.written.text().is_model() {
+            let reply = self.written.forms_of(*self.text.allocator(), line.replies)?;
+            self.reply = Some(reply);
         }
         Ok(())
     }
@@ -156,9 +150,8 @@ fn expand_lines<R: Source + Typed, W: Sink, E: Sink>(
 {
     let expander = Expander {
         text: plain_program(alloc, written, &session)?,
-        is_model: written.expansion().is_some(),
-        shown: Vec::new(alloc),
-        plain: Vec::new(alloc),
+        written,
+        reply: None,
         count: session.lines(),
         fault: None,
     };

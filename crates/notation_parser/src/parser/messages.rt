@@ -67,11 +67,27 @@ fn square(alloc: Global, field: &FieldNode, parameter: usize) -> Expanding<Expre
     joined(alloc, left, Operator::Multiply, right, field.at)
 }
 
-// The squares for fields whose values are the parameters from this one on, each added to what is before it.
-fn squares(alloc: Global, fields: &[FieldNode], first: usize) -> Expanding<Vec<Link>> {
+// What is added up for each field of a message: its part of the packed number, or the square of a distance.
+#[derive(Clone, Copy)]
+enum Addend {
+    Part,
+    Square,
+}
+
+// What is added up for fields whose values are the parameters from this one on, after something that is before it.
+fn addends(
+    alloc: Global,
+    fields: &[FieldNode],
+    first: usize,
+    addend: Addend,
+) -> Expanding<Vec<Link>> {
     let mut links = Vec::new(alloc);
     for (number, field) in fields.iter().enumerate() {
-        let operand = square(alloc, field, first.saturating_add(number))?;
+        let parameter = first.saturating_add(number);
+        let operand = match addend {
+            Addend::Part => packed_field(alloc, field, parameter)?,
+            Addend::Square => square(alloc, field, parameter)?,
+        };
         links.push(Link {
             operator: Operator::Add,
             at: field.at,
@@ -89,7 +105,8 @@ fn range_check(
     at: usize,
 ) -> Expanding<Expression> {
     let one = Box::new(alloc, Expression::Number(at, 1))?;
-    let sum = Expression::Chain(at, one, squares(alloc, fields, first)?);
+    let squares = addends(alloc, fields, first, Addend::Square)?;
+    let sum = Expression::Chain(at, one, squares);
     let inverse = joined(alloc, Expression::Number(at, 1), Operator::Divide, sum, at)?;
     joined(
         alloc,
@@ -115,17 +132,9 @@ fn packed_field(alloc: Global, field: &FieldNode, parameter: usize) -> Expanding
 
 // A message of these fields, whose values are the parameters from this one on, as one number.
 fn packed(alloc: Global, fields: &[FieldNode], first: usize, at: usize) -> Expanding<Expression> {
-    let mut links = Vec::new(alloc);
-    for (number, field) in fields.iter().enumerate() {
-        let operand = packed_field(alloc, field, first.saturating_add(number))?;
-        links.push(Link {
-            operator: Operator::Add,
-            at: field.at,
-            operand,
-        })?;
-    }
-    let check = range_check(alloc, fields, first, at)?;
-    Ok(Expression::Chain(at, Box::new(alloc, check)?, links))
+    let check = Box::new(alloc, range_check(alloc, fields, first, at)?)?;
+    let parts = addends(alloc, fields, first, Addend::Part)?;
+    Ok(Expression::Chain(at, check, parts))
 }
 
 // The value of a field of a message. The first field has all that is left of the others.
