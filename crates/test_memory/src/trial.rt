@@ -70,22 +70,6 @@ fn said_to_question(outcome: Result<Answer, Refusal>) -> Said
     }
 }
 
-// Gives the command that is made of this plan.
-fn give<L: Run, C: Command, M: Fn(Givable) -> Result<C, Refusal>>(
-    alloc: Global,
-    make: &M,
-    locked: &mut Locked<L, C>,
-    seat: &mut Seat<L>,
-    plan: Plan,
-) -> Result<Reply, Refusal>
-    requires makes { (M.IsAlwaysCallable make.now) × MakesFresh (M.post make.now) C.IsFresh }
-    requires givable { IsGivable plan }
-    ensures fits { FitsCall L.program (Give (order_of plan)) (said_of result) }
-{
-    let command = make(Givable::new(plan))?;
-    locked.enter(alloc, seat, command, None)
-}
-
 // Makes a seat's call, and returns what was said to it.
 fn answer<L: Run, C: Command, M: Fn(Givable) -> Result<C, Refusal>>(
     alloc: Global,
@@ -99,7 +83,10 @@ fn answer<L: Run, C: Command, M: Fn(Givable) -> Result<C, Refusal>>(
     ensures fits { FitsCall L.program (call_of call) result }
 {
     match call {
-        Call::Give(plan) => said_to_command(give(alloc, make, locked, seat, plan)),
+        Call::Give(plan) => match make(Givable::new(plan)) {
+            Ok(command) => said_to_command(locked.enter(alloc, seat, command, None)),
+            Err(refusal) => Said::Refused(refusal),
+        },
         Call::Back => said_to_command(locked.enter_back(seat)),
         Call::Ask(query) => said_to_question(locked.enter_ask(alloc, seat, query)),
     }

@@ -154,46 +154,34 @@ fn two_of(rt: &impl Abort, alloc: Global, role: Role) -> (Plan, Plan) {
     }
 }
 
-// The seat has its turn.
-fn take_turn<
-    L: Run,
-    C: Command,
-    M: Fn(Plan) -> Result<C, Refusal>,
-    R: Threads + Wait + Abort + Sync,
->(rt: &R, alloc: Global, desk: &Desk<L, C>, seat: &mut Seat<L>, make: &M, role: Role, turn: u32)
-    requires makes { (M.IsAlwaysCallable make.now) × MakesFresh (M.post make.now) C.IsFresh }
-{
-    match role {
-        Role::Mixed => {
-            try_give(rt, alloc, desk, seat, make, plan_at(rt, alloc, turn));
-            let _reply = desk.back(rt, seat);
-            let _answer = desk.ask(rt, alloc, seat, Query::Vars(Pid(turn % 3)));
-        }
-        Role::Breaks => {
-            let plan = set_break(rt, alloc, "k", &[(B, 1, 1)]);
-            try_give(rt, alloc, desk, seat, make, plan);
-            let _reply = desk.back(rt, seat);
-        }
-        Role::Looks => look_on(desk, seat),
-        _ => {
-            let (first, second) = two_of(rt, alloc, role);
-            try_give(rt, alloc, desk, seat, make, first);
-            try_give(rt, alloc, desk, seat, make, second);
-        }
-    }
-}
-
+// The seat takes so many turns in its role.
 fn take_turns<
     L: Run,
     C: Command,
     M: Fn(Plan) -> Result<C, Refusal>,
     R: Threads + Wait + Abort + Sync,
->(rt: &R, alloc: Global, desk: &Desk<L, C>, seat: &mut Seat<L>, make: &M, play: Play, place: usize)
+>(rt: &R, alloc: Global, desk: &Desk<L, C>, seat: &mut Seat<L>, make: &M, role: Role, turns: u32)
     requires makes { (M.IsAlwaysCallable make.now) × MakesFresh (M.post make.now) C.IsFresh }
 {
-    let role = role_of(play, place);
-    for turn in 0..turns_of(play) {
-        take_turn(rt, alloc, desk, seat, make, role, turn);
+    for turn in 0..turns {
+        match role {
+            Role::Mixed => {
+                try_give(rt, alloc, desk, seat, make, plan_at(rt, alloc, turn));
+                let _reply = desk.back(rt, seat);
+                let _answer = desk.ask(rt, alloc, seat, Query::Vars(Pid(turn % 3)));
+            }
+            Role::Breaks => {
+                let plan = set_break(rt, alloc, "k", &[(B, 1, 1)]);
+                try_give(rt, alloc, desk, seat, make, plan);
+                let _reply = desk.back(rt, seat);
+            }
+            Role::Looks => look_on(desk, seat),
+            _ => {
+                let (first, second) = two_of(rt, alloc, role);
+                try_give(rt, alloc, desk, seat, make, first);
+                try_give(rt, alloc, desk, seat, make, second);
+            }
+        }
     }
 }
 
@@ -211,7 +199,17 @@ fn all_take_turns<
     }
     let work = |place: usize, seat: &mut Seat<L>|
         requires { (M.IsAlwaysCallable make.now) × MakesFresh (M.post make.now) C.IsFresh }
-    { take_turns(rt, alloc, desk, seat, make, play, place) };
+    {
+        take_turns(
+            rt,
+            alloc,
+            desk,
+            seat,
+            make,
+            role_of(play, place),
+            turns_of(play),
+        )
+    };
     thread::for_each_mut(rt, seats, seats.len(), &work);
 }
 

@@ -33,20 +33,29 @@ fn play_four<
     }
 }
 
-// The breakpoint is set through a gate at which the workers of its scan meet, and halts.
-fn expect_halt<
+// Sets the breakpoint through a gate at which the workers of its scan meet: it halts, or it is refused before a scan if the journal is full.
+fn set_break<
     L: Run,
     C: Command,
     M: Fn(Plan) -> Result<C, Refusal>,
     R: Threads + Wait + Abort + Sync,
->(rt: &R, alloc: Global, desk: &Desk<L, C>, seat: &mut Seat<L>, make: &M)
+>(rt: &R, alloc: Global, desk: &Desk<L, C>, seat: &mut Seat<L>, make: &M, is_full: bool)
     requires makes { (M.IsAlwaysCallable make.now) × MakesFresh (M.post make.now) C.IsFresh }
 {
     let gate = CrewGate::new();
     let plan = halting(rt, alloc);
-    let reply = give(rt, alloc, desk, seat, make, plan, &gate).expect(rt, "a reply");
-    expect_same(rt, reply.halted, Some(named(rt, "w")));
-    expect_true(rt, gate.two_met());
+    match give(rt, alloc, desk, seat, make, plan, &gate) {
+        Ok(reply) => {
+            expect_true(rt, !is_full);
+            expect_same(rt, reply.halted, Some(named(rt, "w")));
+            expect_true(rt, gate.two_met());
+        }
+        Err(refusal) => {
+            expect_true(rt, is_full);
+            expect_true(rt, matches!(refusal, Refusal::JournalFull));
+            expect_true(rt, !gate.two_met());
+        }
+    }
 }
 
 // The seat asks until the journal is full.
@@ -60,22 +69,6 @@ fn fill<L: Run, C: Command, R: Threads + Wait + Abort + Sync>(
         let asked = desk.ask(rt, alloc, seat, Query::Place(Pid(0)));
         expect_true(rt, asked.is_ok());
     }
-}
-
-// The breakpoint is refused before a scan: no worker asks the gate.
-fn expect_no_scan<
-    L: Run,
-    C: Command,
-    M: Fn(Plan) -> Result<C, Refusal>,
-    R: Threads + Wait + Abort + Sync,
->(rt: &R, alloc: Global, desk: &Desk<L, C>, seat: &mut Seat<L>, make: &M)
-    requires makes { (M.IsAlwaysCallable make.now) × MakesFresh (M.post make.now) C.IsFresh }
-{
-    let gate = CrewGate::new();
-    let plan = halting(rt, alloc);
-    let outcome = give(rt, alloc, desk, seat, make, plan, &gate);
-    expect_true(rt, matches!(outcome, Err(Refusal::JournalFull)));
-    expect_true(rt, !gate.two_met());
 }
 
 /// Expects the workers of the scan to meet at the gate, and the breakpoint to halt at its least cut: the first has counted to 2, and the
@@ -94,9 +87,9 @@ pub fn the_scan_meets<
     play_four(rt, alloc, &desk, &mut seat, make);
     if is_full {
         fill(rt, alloc, &desk, &mut seat);
-        expect_no_scan(rt, alloc, &desk, &mut seat, make);
-    } else {
-        expect_halt(rt, alloc, &desk, &mut seat, make);
+    }
+    set_break(rt, alloc, &desk, &mut seat, make, is_full);
+    if !is_full {
         let asked = desk.ask(rt, alloc, &mut seat, Query::CutOf(named(rt, "w")));
         expect_true(rt, is_cut(&said_to_question(asked), &[2, 1, 1]));
     }
