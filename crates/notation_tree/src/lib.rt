@@ -6,6 +6,7 @@ pub mod fault;
 pub mod lexer;
 pub mod limits;
 pub mod model;
+pub mod packing;
 pub mod scope;
 pub mod syntax;
 pub mod token;

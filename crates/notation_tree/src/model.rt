@@ -40,6 +40,30 @@ impl Tables {
             fields: Vec::new(alloc),
         }
     }
+
+    /// The number of the type of this name.
+    pub fn type_named(&self, name: &Name) -> Option<usize> {
+        let mut types = self.types.iter();
+        types.position(|node| node.name().bytes() == name.bytes())
+    }
+
+    /// The number of the enum of a constant.
+    pub fn enum_of(&self, constant: usize) -> Option<usize> {
+        let mut types = self.types.iter();
+        types.position(|node| match node {
+            TypeNode::Enum(node) => node.names.iter().any(|name| name.constant == constant),
+            TypeNode::Message(_) => false,
+        })
+    }
+
+    /// The number of the message that a definition packs.
+    pub fn message_of(&self, definition: usize) -> Option<usize> {
+        let mut types = self.types.iter();
+        types.position(|node| match node {
+            TypeNode::Enum(_) => false,
+            TypeNode::Message(message) => message.definition == definition,
+        })
+    }
 }
 
 /// A model that was read.

@@ -1,5 +1,6 @@
 //! Types of variables: enums, and messages whose fields are packed into one number.
 
+use crate::fault::Problem;
 use dbg_base::Name;
 
 /// A constant of an enum: its name, and its number.
@@ -66,4 +67,30 @@ pub struct FieldName {
     pub message: usize,
     pub name: Name,
     pub definition: usize,
+}
+
+/// Whether one of these fields has the name.
+pub fn has_field(fields: &[FieldNode], name: &Name) -> bool {
+    fields
+        .iter()
+        .any(|field| field.name.bytes() == name.bytes())
+}
+
+/// The definition of the field of this name in this message, or in the only message that has it.
+pub fn find_field(
+    fields: &[FieldName],
+    name: &Name,
+    message: Option<usize>,
+) -> Result<usize, Problem> {
+    let mut found = None;
+    for field in fields {
+        let is_wanted = message.is_none_or(|number| number == field.message);
+        if is_wanted && field.name.bytes() == name.bytes() {
+            if found.is_some() {
+                return Err(Problem::FieldOfSeveral);
+            }
+            found = Some(field.definition);
+        }
+    }
+    found.ok_or(Problem::NoField)
 }

@@ -1,10 +1,10 @@
 //! Commands, and commands in cases.
 
 use super::ModelParser;
-use super::types::joined;
 use dbg_base::{Name, Operator};
 use notation_tree::fault::{Expanding, ExpansionStop, Expected, Problem};
 use notation_tree::limits::NESTING;
+use notation_tree::packing::joined;
 use notation_tree::syntax::{
     ActionNode, AssignmentNode, CommandNode, Expression, ItemNode, Label, Link,
 };

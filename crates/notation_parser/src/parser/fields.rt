@@ -1,27 +1,11 @@
 //! Fields of messages in expressions.
 
 use super::ModelParser;
-use dbg_base::Name;
-use notation_tree::fault::{Expanding, ExpansionStop, Problem};
+use notation_tree::fault::{Expanding, ExpansionStop};
 use notation_tree::scope::Binding;
 use notation_tree::syntax::{Expression, Reference, place};
 use notation_tree::token::Mark;
-use notation_tree::types::{FieldName, TypeNode};
-
-// The definition of the field of this name in this message, or in the only message that has it.
-fn find_field(fields: &[FieldName], name: &Name, message: Option<usize>) -> Result<usize, Problem> {
-    let mut found = None;
-    for field in fields {
-        let is_wanted = message.is_none_or(|number| number == field.message);
-        if is_wanted && field.name.bytes() == name.bytes() {
-            if found.is_some() {
-                return Err(Problem::FieldOfSeveral);
-            }
-            found = Some(field.definition);
-        }
-    }
-    found.ok_or(Problem::NoField)
-}
+use notation_tree::types::{FieldName, find_field};
 
 impl<'a> ModelParser<'a> {
     // The type that a variable is declared with.
@@ -36,10 +20,8 @@ impl<'a> ModelParser<'a> {
     pub(super) fn kind_of(&self, expression: &Expression) -> Option<usize> {
         match expression {
             Expression::Name(reference) => self.type_of(reference),
-            Expression::Constant(_, number) => self.enum_of(*number),
-            Expression::Call(_, number, _) => self.tables.types.iter().position(|node| {
-                matches!(node, TypeNode::Message(message) if message.definition == *number)
-            }),
+            Expression::Constant(_, number) => self.tables.enum_of(*number),
+            Expression::Call(_, number, _) => self.tables.message_of(*number),
             _ => None,
         }
     }

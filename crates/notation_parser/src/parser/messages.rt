@@ -2,15 +2,14 @@
 
 use super::ModelParser;
 use super::expressions::is_form;
-use super::types::joined;
-use dbg_base::{Name, Operator};
+use dbg_base::Operator;
 use notation_tree::fault::{Expanding, ExpansionStop, Meaning, Problem};
 use notation_tree::limits::{NESTING, PARAMETERS};
+use notation_tree::packing::{joined, packed, unpacked};
 use notation_tree::scope::Binding;
-use notation_tree::syntax::{DeclarationNode, Definition, Expression, Link, place};
+use notation_tree::syntax::{DeclarationNode, Definition, Expression, place};
 use notation_tree::token::Mark;
-use notation_tree::types::{FieldName, FieldNode, MessageNode, TypeNode};
-use std::alloc::Global;
+use notation_tree::types::{FieldName, FieldNode, MessageNode, TypeNode, has_field};
 
 // The bounds of the range of a field, its enum if it is that of one, and whether it begins with 0.
 #[derive(Drop)]
@@ -19,143 +18,6 @@ struct FieldRange {
     low: Expression,
     high: Expression,
     from_zero: bool,
-}
-
-// Whether one of these fields has the name.
-fn has_field(fields: &[FieldNode], name: &Name) -> bool {
-    fields
-        .iter()
-        .any(|field| field.name.bytes() == name.bytes())
-}
-
-// An expression with an operator and a constant after it.
-fn with_constant(
-    alloc: Global,
-    left: Expression,
-    operator: Operator,
-    constant: usize,
-    at: usize,
-) -> Expanding<Expression> {
-    joined(
-        alloc,
-        left,
-        operator,
-        Expression::Constant(at, constant),
-        at,
-    )
-}
-
-// How far a value is from the middle of the range of a field, in units of its width: 0 in the range, and something else outside.
-fn distance(alloc: Global, field: &FieldNode, parameter: usize) -> Expanding<Expression> {
-    let at = field.at;
-    let value = Expression::Parameter(at, parameter);
-    let twice = joined(
-        alloc,
-        Expression::Number(at, 2),
-        Operator::Multiply,
-        value,
-        at,
-    )?;
-    let centred = with_constant(alloc, twice, Operator::Subtract, field.bounds, at)?;
-    with_constant(alloc, centred, Operator::Divide, field.width, at)
-}
-
-// The square of that distance.
-fn square(alloc: Global, field: &FieldNode, parameter: usize) -> Expanding<Expression> {
-    let left = distance(alloc, field, parameter)?;
-    let right = distance(alloc, field, parameter)?;
-    joined(alloc, left, Operator::Multiply, right, field.at)
-}
-
-// What is added up for each field of a message: its part of the packed number, or the square of a distance.
-#[derive(Clone, Copy)]
-enum Addend {
-    Part,
-    Square,
-}
-
-// What is added up for fields whose values are the parameters from this one on, after something that is before it.
-fn addends(
-    alloc: Global,
-    fields: &[FieldNode],
-    first: usize,
-    addend: Addend,
-) -> Expanding<Vec<Link>> {
-    let mut links = Vec::new(alloc);
-    for (number, field) in fields.iter().enumerate() {
-        let parameter = first.saturating_add(number);
-        let operand = match addend {
-            Addend::Part => packed_field(alloc, field, parameter)?,
-            Addend::Square => square(alloc, field, parameter)?,
-        };
-        links.push(Link {
-            operator: Operator::Add,
-            at: field.at,
-            operand,
-        })?;
-    }
-    Ok(links)
-}
-
-// 0 where each value is in the range of its field; otherwise a division by 0, which is a fault of the command.
-fn range_check(
-    alloc: Global,
-    fields: &[FieldNode],
-    first: usize,
-    at: usize,
-) -> Expanding<Expression> {
-    let one = Box::new(alloc, Expression::Number(at, 1))?;
-    let squares = addends(alloc, fields, first, Addend::Square)?;
-    let sum = Expression::Chain(at, one, squares);
-    let inverse = joined(alloc, Expression::Number(at, 1), Operator::Divide, sum, at)?;
-    joined(
-        alloc,
-        Expression::Number(at, 0),
-        Operator::Divide,
-        inverse,
-        at,
-    )
-}
-
-// The part of a packed message that a field is.
-fn packed_field(alloc: Global, field: &FieldNode, parameter: usize) -> Expanding<Expression> {
-    let at = field.at;
-    let mut value = Expression::Parameter(at, parameter);
-    if !field.from_zero {
-        value = with_constant(alloc, value, Operator::Subtract, field.low, at)?;
-    }
-    if let Some(unit) = field.unit {
-        value = with_constant(alloc, value, Operator::Multiply, unit, at)?;
-    }
-    Ok(value)
-}
-
-// A message of these fields, whose values are the parameters from this one on, as one number.
-fn packed(alloc: Global, fields: &[FieldNode], first: usize, at: usize) -> Expanding<Expression> {
-    let check = Box::new(alloc, range_check(alloc, fields, first, at)?)?;
-    let parts = addends(alloc, fields, first, Addend::Part)?;
-    Ok(Expression::Chain(at, check, parts))
-}
-
-// The value of a field of a message. The first field has all that is left of the others.
-fn unpacked(
-    alloc: Global,
-    field: &FieldNode,
-    is_first: bool,
-    parameter: usize,
-) -> Expanding<Expression> {
-    let at = field.at;
-    let mut value = Expression::Parameter(at, parameter);
-    if let Some(unit) = field.unit {
-        value = with_constant(alloc, value, Operator::Divide, unit, at)?;
-    }
-    if !is_first {
-        value = with_constant(alloc, value, Operator::Remainder, field.width, at)?;
-    }
-    if !field.from_zero {
-        value = with_constant(alloc, value, Operator::Add, field.low, at)?;
-    }
-    Ok(value)
 }
 
 impl<'a> ModelParser<'a> {
@@ -173,7 +35,7 @@ impl<'a> ModelParser<'a> {
             });
         }
         let name = self.name()?;
-        let kind = self.type_named(&name.name);
+        let kind = self.tables.type_named(&name.name);
         let node = kind.and_then(|kind| self.tables.types.get(kind));
         if let Some(TypeNode::Enum(node)) = node {
             if let (Some(first), Some(last)) = (node.names.first(), node.names.last()) {

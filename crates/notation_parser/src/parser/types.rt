@@ -1,43 +1,20 @@
 //! Enums, and the types of variables.
 
 use super::{ModelParser, Written};
-use dbg_base::{Name, Operator};
+use dbg_base::Operator;
 use notation_tree::fault::{Expanding, ExpansionStop, Meaning, Problem};
+use notation_tree::packing::joined;
 use notation_tree::scope::Binding;
-use notation_tree::syntax::{Constant, DeclarationNode, Expression, Link};
+use notation_tree::syntax::{Constant, DeclarationNode, Expression};
 use notation_tree::token::Mark;
 use notation_tree::types::{EnumName, EnumNode, TypeNode};
-use std::alloc::Global;
-
-// An expression with an operator at this offset and its right operand.
-pub(super) fn joined(
-    alloc: Global,
-    left: Expression,
-    operator: Operator,
-    right: Expression,
-    at: usize,
-) -> Expanding<Expression> {
-    let mut links = Vec::new(alloc);
-    links.push(Link {
-        operator,
-        at,
-        operand: right,
-    })?;
-    Ok(Expression::Chain(at, Box::new(alloc, left)?, links))
-}
 
 impl<'a> ModelParser<'a> {
-    // The number of the type of this name.
-    pub(super) fn type_named(&self, name: &Name) -> Option<usize> {
-        let mut types = self.tables.types.iter();
-        types.position(|node| node.name().bytes() == name.bytes())
-    }
-
     // The name of a new type.
     pub(super) fn type_name(&mut self) -> Expanding<Written> {
         self.pass();
         let name = self.name()?;
-        if self.type_named(&name.name).is_some() {
+        if self.tables.type_named(&name.name).is_some() {
             return Err(ExpansionStop::Bad(Problem::NameTaken(Meaning::Type), name.at));
         }
         Ok(name)
@@ -49,7 +26,7 @@ impl<'a> ModelParser<'a> {
             return Ok(None);
         }
         let name = self.name()?;
-        match self.type_named(&name.name) {
+        match self.tables.type_named(&name.name) {
             Some(kind) => Ok(Some(kind)),
             None => Err(ExpansionStop::Bad(Problem::NoType, name.at)),
         }
@@ -130,15 +107,6 @@ impl<'a> ModelParser<'a> {
         Ok(())
     }
 
-    // The number of the enum of a constant.
-    pub(super) fn enum_of(&self, constant: usize) -> Option<usize> {
-        let mut types = self.tables.types.iter();
-        types.position(|node| match node {
-            TypeNode::Enum(node) => node.names.iter().any(|name| name.constant == constant),
-            TypeNode::Message(_) => false,
-        })
-    }
-
     // Refuses to set a variable of an enum to a constant of another one.
     pub(super) fn check_enum(&self, kind: Option<usize>, value: &Expression) -> Expanding<()> {
         let Some(kind) = kind else {
@@ -147,7 +115,7 @@ impl<'a> ModelParser<'a> {
         let Expression::Constant(at, constant) = value else {
             return Ok(());
         };
-        match self.enum_of(*constant) {
+        match self.tables.enum_of(*constant) {
             Some(owner) if owner != kind => Err(ExpansionStop::Bad(Problem::OtherEnum, *at)),
             _ => Ok(()),
         }
