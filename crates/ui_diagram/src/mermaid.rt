@@ -87,7 +87,7 @@ impl MermaidSheet<'_> {
         self.put_alias(notes, from)?;
         notes.add(arrow)?;
         self.put_alias(notes, to)?;
-        notes.add_with(": {}", &[Part::Number(value)])
+        notes.add_with(": {}", &[self.scope(from).message_to(to, value)])
     }
 
     // The message that an event received. Its arrow is where it was received. There is none from a process that is not shown.
@@ -155,7 +155,7 @@ impl MermaidSheet<'_> {
         match self.timeline.received_by(self.view.session.world, shown) {
             Some(received) if !self.selection.contains(received.source) => {
                 let from = self.scope(received.source).name();
-                let value = Part::Number(received.value);
+                let value = self.scope(shown.pid).message_from(received.source, received.value);
                 parts.say_with("receives {} from {}", &[value, from])
             }
             _ => Ok(()),
@@ -172,7 +172,7 @@ impl MermaidSheet<'_> {
         let has_target = self.selection.contains(sent.target);
         if !has_target || !sent.is_on_its_way && !self.is_received_next(shown) {
             let to = self.scope(sent.target).name();
-            let value = Part::Number(sent.value);
+            let value = self.scope(shown.pid).message_to(sent.target, sent.value);
             parts.say_with("sends {} to {}", &[value, to])?;
         }
         self.say_parts(notes, shown.pid, &parts)?;

@@ -97,7 +97,7 @@ impl TextSheet<'_> {
             .received_by(self.scene.view.session.world, shown)
         {
             Some(received) if self.scene.selection.contains(received.source) => {
-                let label = self.scene.received(received)?;
+                let label = self.scene.received(shown.pid, received)?;
                 self.say_arrow(notes, received.source, shown.pid, b'-', &label)
             }
             _ => Ok(()),

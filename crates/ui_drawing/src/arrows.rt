@@ -82,14 +82,15 @@ impl SvgSheet<'_> {
         let Some(received) = self.scene.timeline.received_by(world, shown) else {
             return Ok(());
         };
+        let scope = self.scene.scope(shown.pid);
         title.add_with(
             "{} from event {} of {} to event {} of {}",
             &[
-                Part::Number(received.value),
+                scope.message_from(received.source, received.value),
                 Part::Natural(received.sender),
-                self.scene.scope(received.source).name(),
+                scope.process(received.source),
                 Part::Natural(shown.number),
-                self.scene.scope(shown.pid).name(),
+                scope.name(),
             ],
         )
     }
@@ -103,13 +104,14 @@ impl SvgSheet<'_> {
         else {
             return Ok(());
         };
+        let scope = self.scene.scope(shown.pid);
         title.add_with(
             "{} from event {} of {}, on its way to {}",
             &[
-                Part::Number(sent.value),
+                scope.message_to(sent.target, sent.value),
                 Part::Natural(shown.number),
-                self.scene.scope(shown.pid).name(),
-                self.scene.scope(sent.target).name(),
+                scope.name(),
+                scope.process(sent.target),
             ],
         )
     }

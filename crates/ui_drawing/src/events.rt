@@ -23,13 +23,14 @@ impl SvgSheet<'_> {
             put_setting(&mut deeds, self.scene.scope(shown.pid), setting)?;
         }
         let world = self.scene.view.session.world;
+        let scope = self.scene.scope(shown.pid);
         if let Some(received) = self.scene.timeline.received_by(world, shown) {
-            let value = Part::Number(received.value);
+            let value = scope.message_from(received.source, received.value);
             let name = self.scene.scope(received.source).name();
             deeds.say_with("received {} from {}", &[value, name])?;
         }
         if let Some(sent) = self.scene.timeline.sent_by(world, shown) {
-            let value = Part::Number(sent.value);
+            let value = scope.message_to(sent.target, sent.value);
             let name = self.scene.scope(sent.target).name();
             deeds.say_with("sent {} to {}", &[value, name])?;
         }

@@ -101,7 +101,7 @@ impl<'a> Scene<'a> {
         for setting in event.settings() {
             if count < most && self.is_named(pid, setting.variable) == named {
                 let name = self.scope(pid).variable(setting.variable);
-                let value = Part::Number(setting.new);
+                let value = self.scope(pid).value(setting.variable, setting.new);
                 words.add_with(" {}={}", &[name, value])?;
                 count = count.saturating_add(1);
             }
@@ -132,18 +132,24 @@ impl<'a> Scene<'a> {
     // Appends the message of an event from or to a process that is not shown to the last line.
     fn put_hidden_message(&self, words: &mut Notes, shown: ShownEvent) -> Result<(), AllocError> {
         let world = self.view.session.world;
+        let scope = self.scope(shown.pid);
         let message = match (
             self.timeline.received_by(world, shown),
             self.timeline.sent_by(world, shown),
         ) {
-            (Some(received), _) => Some((received.value, " < ", received.source)),
-            (None, Some(sent)) => Some((sent.value, " > ", sent.target)),
+            (Some(received), _) => {
+                let value = scope.message_from(received.source, received.value);
+                Some((value, " < ", received.source))
+            }
+            (None, Some(sent)) => {
+                let value = scope.message_to(sent.target, sent.value);
+                Some((value, " > ", sent.target))
+            }
             (None, None) => None,
         };
         match message {
             Some((value, sign, partner)) if !self.selection.contains(partner) => {
                 let name = self.scope(partner).name();
-                let value = Part::Number(value);
                 words.add_with(" {}{}{}", &[value, Part::Text(sign), name])
             }
             _ => Ok(()),
@@ -187,14 +193,17 @@ impl<'a> Scene<'a> {
     // The words at the message that an event received, or that it sent and that is on its way. None if there is no such message.
     fn message_label(&self, shown: ShownEvent) -> Result<Option<Notes>, AllocError> {
         let mut words = Notes::new(self.alloc);
+        let scope = self.scope(shown.pid);
         if let Some(received) = self.received(shown) {
-            words.say_with("{}", &[Part::Number(received.value)])?;
+            let value = scope.message_from(received.source, received.value);
+            words.say_with("{}", &[value])?;
             return Ok(Some(words));
         }
         match self.waiting(shown) {
             Some(sent) => {
                 let name = self.scope(sent.target).name();
-                words.say_with("{} > {}", &[Part::Number(sent.value), name])?;
+                let value = scope.message_to(sent.target, sent.value);
+                words.say_with("{} > {}", &[value, name])?;
                 Ok(Some(words))
             }
             None => Ok(None),

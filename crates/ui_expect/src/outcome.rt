@@ -1,10 +1,11 @@
 //! What was said to a line, as a replay compares it.
 
-use dbg_base::{Done, Name, Said};
+use dbg_base::{Done, Name, Pid, Said};
 use dbg_command::SessionView;
 use event_rows::{Event, Exchange};
 use std::alloc::{AllocError, Global};
 use ui_repl::AnsweredLine;
+use ui_text::{Notes, Part, ProgramText};
 use ui_view::Told;
 
 /// What was said to a line that was played.
@@ -15,27 +16,35 @@ pub(crate) struct Outcome {
     pub(crate) line: Vec<u8>,
     /// The reply, as it is shown.
     pub(crate) reply: Vec<u8>,
-    /// The message that the event received, if it received one.
-    pub(crate) message: Option<i64>,
+    /// The message that the event received, as it is shown, if it received one.
+    pub(crate) message: Option<Vec<u8>>,
     halted: Option<Name>,
     is_refused: bool,
 }
 
-// The message that was received by the event that an accepted command made.
-fn message_of(view: SessionView<'_>, done: &Done) -> Option<i64> {
-    let Done::Played(pid, _) = done else {
-        return None;
-    };
-    match view.world.rows().last(*pid).map(Event::exchange) {
-        Some(Exchange::Took { message, .. }) => Some(message),
-        _ => None,
+// The message that was received by the last event of a process, as it is shown.
+fn message_of(
+    alloc: Global,
+    text: &ProgramText,
+    view: SessionView<'_>,
+    pid: Pid,
+) -> Result<Option<Vec<u8>>, AllocError> {
+    match view.world.rows().last(pid).map(Event::exchange) {
+        Some(Exchange::Took { source, message, .. }) => {
+            let mut words = Notes::new(alloc);
+            let shown = Part::Shown(text.message(source, pid, message));
+            words.say_with("{}", &[shown])?;
+            Ok(Some(Vec::from_slice(alloc, words.line(0).bytes)?))
+        }
+        _ => Ok(None),
     }
 }
 
 impl Outcome {
-    /// What was said to this line of a session.
+    /// What was said to this line of a session of this program.
     pub(crate) fn new(
         alloc: Global,
+        text: &ProgramText,
         number: usize,
         line: &AnsweredLine<'_>,
     ) -> Result<Outcome, AllocError> {
@@ -49,7 +58,9 @@ impl Outcome {
             is_refused: matches!(told, Told::Refused(_) | Told::Said(_, Said::Refused(_), _)),
         };
         if let Told::Said(_, Said::Accepted(accepted), _) = told {
-            outcome.message = message_of(line.view, &accepted.done);
+            if let Done::Played(pid, _) = accepted.done {
+                outcome.message = message_of(alloc, text, line.view, pid)?;
+            }
             outcome.halted = accepted.halted;
         }
         Ok(outcome)
@@ -70,9 +81,10 @@ impl Outcome {
         if self.reply.as_slice() != before.reply.as_slice() {
             return Some("the reply is another one");
         }
-        if self.message != before.message {
-            return Some("another message is received");
+        match (&before.message, &self.message) {
+            (None, None) => None,
+            (Some(message), Some(now)) if message.as_slice() == now.as_slice() => None,
+            _ => Some("another message is received"),
         }
-        None
     }
 }

@@ -18,7 +18,7 @@ use ui_repl::{
     WrittenProgram, open, read_alone, refuse, write_notes, write_text,
 };
 use ui_session::{Room, Typed};
-use ui_text::{Notes, Part};
+use ui_text::{Notes, Part, ProgramText};
 use ui_view::{Echo, Explainer};
 
 /// How a session went on an edited program.
@@ -43,6 +43,7 @@ pub struct ReplayNames<'a> {
 struct Replayer<'a> {
     alloc: Global,
     names: ReplayNames<'a>,
+    text: &'a ProgramText,
     // The number of the present line in the session, and the explanation of its reply.
     number: usize,
     explanation: LastExplanation<'a>,
@@ -58,6 +59,7 @@ impl Drop for Replayer<'_> {
         let Replayer {
             alloc: _,
             names: _,
+            text: _,
             number: _,
             explanation: _,
             outcomes: _,
@@ -88,8 +90,8 @@ fn put_outcome<'x>(
 ) -> Result<(), AllocError> {
     let reply = outcome.reply.as_slice();
     notes.say_with("  {}{}", &[Part::Text(when), Part::Bytes(reply)])?;
-    match outcome.message {
-        Some(message) => notes.add_with(", received {}", &[Part::Number(message)]),
+    match &outcome.message {
+        Some(message) => notes.add_with(", received {}", &[Part::Bytes(message.as_slice())]),
         None => Ok(()),
     }
 }
@@ -106,6 +108,7 @@ impl<'a> Replayer<'a> {
         Replayer {
             alloc,
             names,
+            text: written.text(),
             number,
             explanation: LastExplanation::new(alloc, written),
             outcomes: Vec::new(alloc),
@@ -201,7 +204,7 @@ impl Explainer<Option<LineFault>> for Replayer<'_> {
 
     fn explain(&mut self, line: &AnsweredLine<'_>, _notes: &mut Notes) -> Result<(), AllocError> {
         self.explanation.explain(line)?;
-        let now = Outcome::new(self.alloc, self.number, line)?;
+        let now = Outcome::new(self.alloc, self.text, self.number, line)?;
         if self.report.is_none() {
             self.report = self.compare(&now)?;
         }

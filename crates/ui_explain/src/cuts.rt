@@ -210,7 +210,8 @@ impl ExplainedSession<'_> {
         let last = sent.min(got.saturating_add(SHOWN));
         for count in got..last {
             if let Some(value) = self.message(source, target, count.saturating_add(1)) {
-                notes.add_with("{}{}", &[Part::Text(word), Part::Number(value)])?;
+                let value = scope.message_to(target, value);
+                notes.add_with("{}{}", &[Part::Text(word), value])?;
                 word = ", ";
             }
         }

@@ -140,8 +140,8 @@ impl ExplainedSession<'_> {
                 .copied()
                 .unwrap_or(0);
             if count > 0 {
-                let (form, value) = (count_form(direction), i64::from(count));
-                put_value(notes, &mut word, form, &[scope.process(Pid(other))], value)?;
+                let (form, name) = (count_form(direction), scope.process(Pid(other)));
+                put_value(notes, &mut word, form, &[name], Part::Natural(count))?;
             }
         }
         Ok(())
@@ -159,7 +159,7 @@ impl ExplainedSession<'_> {
         let scope = self.view.scope(source);
         notes.say_with("{} -> {}:", &[scope.name(), scope.process(target)])?;
         for message in messages.items() {
-            notes.add_with(" {}", &[Part::Number(*message)])?;
+            notes.add_with(" {}", &[scope.message_to(target, *message)])?;
         }
         Ok(())
     }

@@ -1,3 +1,4 @@
 pub mod DialogueLemmas
 pub mod NamedLemmas
 pub mod StyleLemmas
+pub mod ValueLemmas

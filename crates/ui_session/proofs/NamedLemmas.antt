@@ -9,9 +9,9 @@ plain_at (y ∷ xs) ℕ.zero none x lt is = ap (λ (z : ℕ). plain_byte z ++ pl
 plain_at (y ∷ xs) (suc i) none x lt is = plain_at xs i none x (omega (arith, lt)) is
 
 -- one more byte
-pub plain_step : (text old new : List ℕ) (i none x : ℕ) → old ++ plain_text (drop i text) ≡ plain_text text → new ≡ old ++ plain_byte x
-    → i < length text → x ≡ get_or text i none → new ++ plain_text (drop (i + 1) text) ≡ plain_text text
-plain_step text old new i none x so_far is lt at =
+pub plain_step : (text old new whole : List ℕ) (i none x : ℕ) → old ++ plain_text (drop i text) ≡ whole → new ≡ old ++ plain_byte x
+    → i < length text → x ≡ get_or text i none → new ++ plain_text (drop (i + 1) text) ≡ whole
+plain_step text old new whole i none x so_far is lt at =
     rw add-one (ap (λ (t : List ℕ). t ++ plain_text (drop (suc i) text)) is
     ∙ append_assoc old (plain_byte x) (plain_text (drop (suc i) text))
     ∙ ap (λ (t : List ℕ). old ++ t) (sym (plain_at text i none x lt at)) ∙ so_far)

@@ -6,6 +6,7 @@ mod directives;
 mod named_replies;
 mod room;
 mod typed;
+mod value_words;
 mod written;
 
 pub use dialogue::Dialogue;

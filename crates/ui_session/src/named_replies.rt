@@ -8,6 +8,7 @@ ghost use Rattle.proc_tree.specs.Programs.{program_of};
 ghost use Rattle.shell_serve.specs.Replying.{FitsReply, reply_line};
 ghost use Rattle.ui_session.specs.Named.{IsHead, IsLabelled, is_ink, named, showing, plain_byte, plain_text};
 
+use crate::value_words::is_valued;
 use dbg_base::Choice;
 use itoa::Buffer;
 use proc_tree::Program;
@@ -44,14 +45,22 @@ fn put_plain(plain: &mut Vec<u8>, byte: u8) -> Result<(), AllocError>
     }
 }
 
+// Appends a text as it is with plain names.
+pub(crate) fn put_plain_text(plain: &mut Vec<u8>, text: &[u8]) -> Result<(), AllocError>
+    ensures { OnOk result (plain.new.items ≡ plain.old.items ++ plain_text text.now) }
+{
+    for byte in text {
+        put_plain(plain, *byte)?;
+    }
+    Ok(())
+}
+
 /// A text in which names have their indices in brackets, with plain names: `server[3]` becomes `server_3`. Error: memory ran out.
 pub fn plain_text(alloc: Global, text: &[u8]) -> Result<Vec<u8>, AllocError>
     ensures { IfOk result (λ made. made.items ≡ plain_text text.now) }
 {
     let mut plain = Vec::new(alloc);
-    for byte in text {
-        put_plain(&mut plain, *byte)?;
-    }
+    put_plain_text(&mut plain, text)?;
     Ok(plain)
 }
 
@@ -77,7 +86,7 @@ fn is_head(head: &[u8]) -> bool
 }
 
 // Whether no byte is a blank or a line end.
-fn is_ink(bytes: &[u8]) -> bool
+pub(crate) fn is_ink(bytes: &[u8]) -> bool
     ensures { result ≡ list_all is_ink bytes.now }
 {
     let mut is_ink = true;
@@ -88,7 +97,7 @@ fn is_ink(bytes: &[u8]) -> bool
 }
 
 // Whether two texts are the same.
-fn is_same(text: &[u8], other: &[u8]) -> bool
+pub(crate) fn is_same(text: &[u8], other: &[u8]) -> bool
     ensures { result ≡ true → text.now ≡ other.now }
 {
     text == other
@@ -167,9 +176,11 @@ fn is_named(alloc: Global, due: &[u8], line: &[u8]) -> Result<bool, AllocError>
 fn is_shown(alloc: Global, due: &[u8], reply: &NamedReply) -> Result<bool, AllocError>
     ensures { IfOk result (λ is. is ≡ true → named due.now reply.now.line.items) }
 {
+    let line = reply.line.as_slice();
     match reply.label {
-        Some(place) => is_labelled(alloc, due, reply.line.as_slice(), place),
-        None => is_named(alloc, due, reply.line.as_slice()),
+        Some(place) => is_labelled(alloc, due, line, place),
+        None if reply.values.is_empty() => is_named(alloc, due, line),
+        None => is_valued(alloc, due, line, reply.values.as_slice()),
     }
 }
 

@@ -10,6 +10,7 @@ mod names;
 mod notes;
 mod numbers;
 mod source;
+mod value_types;
 
 pub use escapes::{put_visible, visible};
 pub use faults::{foreign_correction, say_mark, tell_correction, tell_mark, tell_no_end_line};
@@ -22,3 +23,4 @@ pub use names::{Declaration, DeclaredAs, find_declaration};
 pub use notes::{NoteLine, Notes, Part, StyleChange};
 pub use numbers::meaning;
 pub use source::{ProgramText, command_offsets, is_word_byte, prefix_word};
+pub use value_types::{NamedNumber, PackedValue, ShownValue};

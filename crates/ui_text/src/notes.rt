@@ -1,6 +1,7 @@
 //! The lines of an explanation, made of parts.
 
 use crate::indices::base_length;
+use crate::value_types::{NamedNumber, PackedValue, ShownValue};
 use dbg_base::Name;
 use itoa::Buffer;
 use shell_io::Style;
@@ -18,8 +19,8 @@ const ROOM: usize = 256;
 // What is before a line in the text: the end of the line before it, and two blanks.
 const BEGIN: &[u8] = b"\n  ";
 
-/// A part of a line: words, bytes, a name, a number, or how many events there are. `Indexed` is a name with the indices at its end in
-/// brackets. The name of a process with its number, and a new value, have a style of their own.
+/// A part of a line: words, bytes, a name, a number, a value as it is shown, or how many events there are. `Indexed` is a name with the
+/// indices at its end in brackets. The name of a process with its number, and a new value, have a style of their own.
 #[derive(Clone, Copy)]
 pub enum Part<'a> {
     Text(&'a str),
@@ -31,7 +32,8 @@ pub enum Part<'a> {
     Count(usize),
     Events(u32),
     Process(&'a [u8], u32),
-    Value(i64),
+    Shown(ShownValue<'a>),
+    Value(ShownValue<'a>),
 }
 
 /// A style that a line has from this byte on, up to the next change.
@@ -252,6 +254,43 @@ impl Notes {
         Ok(())
     }
 
+    // Appends a number, or its name.
+    fn put_named(&mut self, named: NamedNumber<'_>) -> Result<(), AllocError> {
+        match named.name {
+            Some(name) => self.put_bytes(name),
+            None => self.put_number(named.number),
+        }
+    }
+
+    // Appends the type of a message, and its fields in parentheses.
+    #[inline(never)]
+    fn put_packed(&mut self, packed: &PackedValue<'_>) -> Result<(), AllocError> {
+        self.put_bytes(packed.name())?;
+        let mut before = b"(";
+        for at in 0..packed.len() {
+            self.put_bytes(before)?;
+            before = b",";
+            self.put_named(packed.field(at))?;
+        }
+        self.put_bytes(if packed.len() == 0 { b"()" } else { b")" })
+    }
+
+    // Appends what is shown for a value.
+    fn put_shown(&mut self, shown: &ShownValue<'_>) -> Result<(), AllocError> {
+        match shown {
+            ShownValue::Plain(named) => self.put_named(*named),
+            ShownValue::Packed(packed) => self.put_packed(packed),
+        }
+    }
+
+    // Appends a new value in its style.
+    fn put_new_value(&mut self, shown: &ShownValue<'_>) -> Result<(), AllocError> {
+        let before = self.style;
+        self.change_style(self.width(), Style::Value)?;
+        self.put_shown(shown)?;
+        self.change_style(self.width(), before)
+    }
+
     /// Appends a part to the last line.
     #[inline(always)]
     pub fn put(&mut self, part: &Part<'_>) -> Result<(), AllocError> {
@@ -268,10 +307,9 @@ impl Notes {
                 self.put_styled(Style::Process(*number), name)
             }
             Part::Process(name, _) => self.put_bytes(name),
-            Part::Value(value) if self.has_styles => {
-                self.put_styled(Style::Value, Buffer::new().format(*value).as_bytes())
-            }
-            Part::Value(value) => self.put_number(*value),
+            Part::Shown(shown) => self.put_shown(shown),
+            Part::Value(shown) if self.has_styles => self.put_new_value(shown),
+            Part::Value(shown) => self.put_shown(shown),
         }
     }
 

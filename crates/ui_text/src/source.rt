@@ -1,5 +1,6 @@
 //! A program as it was written: its text, its names, and the places of its commands.
 
+use crate::value_types::{ShownValue, ValueTypes};
 use dbg_base::{Choice, Pid};
 use itoa::Buffer;
 use std::alloc::{AllocError, Global};
@@ -13,13 +14,22 @@ struct CommandPlace {
     shown: Vec<u8>,
 }
 
-// The names of a process, in the plain program and as it was written, the names of its variables, and its commands, in order.
+// The name of a variable as it was written, and the number of its type, if its values are shown as those of a type.
+#[derive(Drop)]
+struct VariableWords {
+    name: Vec<u8>,
+    kind: Option<usize>,
+}
+
+// The names of a process, in the plain program and as it was written, its variables and its commands, in order, and the types of the
+// messages that it sends to each process.
 #[derive(Drop)]
 struct ProcessWords {
     plain: Vec<u8>,
     name: Vec<u8>,
-    variables: Vec<Vec<u8>>,
+    variables: Vec<VariableWords>,
     commands: Vec<CommandPlace>,
+    messages: Vec<Option<usize>>,
 }
 
 // The longest text of a command that is shown, in bytes.
@@ -32,6 +42,7 @@ pub struct ProgramText {
     is_model: bool,
     // The offset at which each line begins.
     starts: Vec<usize>,
+    types: ValueTypes,
     processes: Vec<ProcessWords>,
     longest_name: usize,
 }
@@ -133,6 +144,7 @@ impl ProgramText {
             text: Vec::from_slice(alloc, text)?,
             is_model,
             starts,
+            types: ValueTypes::new(alloc),
             processes: Vec::new(alloc),
             longest_name: 0,
         })
@@ -161,15 +173,22 @@ impl ProgramText {
             name: Vec::from_slice(alloc, name)?,
             variables: Vec::new(alloc),
             commands: Vec::new(alloc),
+            messages: Vec::new(alloc),
         })?;
         Ok(())
     }
 
-    /// Adds the next variable of the last process, as it was written. Error: memory ran out.
-    pub fn add_variable(&mut self, alloc: Global, name: &[u8]) -> Result<(), AllocError> {
+    /// Adds the next variable of the last process, as it was written, and the number of the type as a value of which its value is shown, if
+    /// it has one. Error: memory ran out.
+    pub fn add_variable(
+        &mut self,
+        alloc: Global,
+        name: &[u8],
+        kind: Option<usize>,
+    ) -> Result<(), AllocError> {
         let name = Vec::from_slice(alloc, name)?;
         if let Some(process) = self.processes.last_mut() {
-            process.variables.push(name)?;
+            process.variables.push(VariableWords { name, kind })?;
         }
         Ok(())
     }
@@ -190,6 +209,61 @@ impl ProgramText {
             process.commands.push(CommandPlace { at, label, shown })?;
         }
         Ok(())
+    }
+
+    /// Adds the next type, an enum without names. Types are numbered from 0. Error: memory ran out.
+    pub fn add_enum(&mut self) -> Result<(), AllocError> {
+        self.types.add_enum()
+    }
+
+    /// Adds a name to the last type, an enum. Error: memory ran out.
+    pub fn add_enum_name(&mut self, name: &[u8], value: i64) -> Result<(), AllocError> {
+        self.types.add_name(name, value)
+    }
+
+    /// Adds the next type, a message without fields. Error: memory ran out.
+    pub fn add_message(&mut self, name: &[u8]) -> Result<(), AllocError> {
+        self.types.add_message(name)
+    }
+
+    /// Adds a field to the last type, a message: the least number in it, how many numbers it has from there, and the number of the enum
+    /// that they are of, if they are of one. Error: memory ran out.
+    pub fn add_field(
+        &mut self,
+        low: i64,
+        width: i64,
+        kind: Option<usize>,
+    ) -> Result<(), AllocError> {
+        self.types.add_field(low, width, kind)
+    }
+
+    /// The messages that a process sends to this other are of the type of this number. Error: memory ran out.
+    pub fn set_channel_type(&mut self, from: Pid, to: Pid, kind: usize) -> Result<(), AllocError> {
+        let at = to.0 as usize;
+        if let Some(process) = self.processes.get_mut(from.0 as usize) {
+            if at >= process.messages.len() {
+                process.messages.resize(at.saturating_add(1), None)?;
+            }
+            if let Some(place) = process.messages.as_mut_slice().get_mut(at) {
+                *place = Some(kind);
+            }
+        }
+        Ok(())
+    }
+
+    /// What is shown for a value of a variable of a process.
+    pub fn value(&self, pid: Pid, variable: u32, value: i64) -> ShownValue<'_> {
+        let process = self.processes.get(pid.0 as usize);
+        let variable = process.and_then(|process| process.variables.get(variable as usize));
+        self.types
+            .shown(variable.and_then(|variable| variable.kind), value)
+    }
+
+    /// What is shown for a message that a process sends to another.
+    pub fn message(&self, from: Pid, to: Pid, value: i64) -> ShownValue<'_> {
+        let process = self.processes.get(from.0 as usize);
+        let kind = process.and_then(|process| process.messages.get(to.0 as usize));
+        self.types.shown(kind.copied().flatten(), value)
     }
 
     /// How many bytes the longest name of a process has, as it was written.
@@ -222,7 +296,7 @@ impl ProgramText {
     pub fn variable_name(&self, pid: Pid, variable: u32) -> &[u8] {
         let process = self.processes.get(pid.0 as usize);
         match process.and_then(|process| process.variables.get(variable as usize)) {
-            Some(name) => name.as_slice(),
+            Some(variable) => variable.name.as_slice(),
             None => &[],
         }
     }

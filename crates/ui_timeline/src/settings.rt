@@ -2,7 +2,7 @@
 
 use event_rows::Setting;
 use std::alloc::AllocError;
-use ui_text::{Notes, Part};
+use ui_text::Notes;
 use ui_view::ProcessView;
 
 /// Appends a variable with its value before and after an event to the last line.
@@ -11,7 +11,8 @@ pub fn put_setting(
     scope: ProcessView<'_>,
     setting: &Setting,
 ) -> Result<(), AllocError> {
-    let (old, new) = (Part::Number(setting.old), Part::Number(setting.new));
+    let old = scope.value(setting.variable, setting.old);
+    let new = scope.value(setting.variable, setting.new);
     notes.add_with("{}", &[scope.variable(setting.variable)])?;
     if setting.old == setting.new {
         return notes.add_with(" stays {}", &[new]);

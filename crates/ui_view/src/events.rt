@@ -109,14 +109,16 @@ impl ProcessView<'_> {
             notes.put(&Part::Text(word))?;
         }
         notes.put(&self.variable(setting.variable))?;
+        let old = self.value(setting.variable, setting.old);
         if setting.old == setting.new {
             notes.put(&Part::Text(" stays "))?;
-            return notes.put(&Part::Number(setting.old));
+            return notes.put(&old);
         }
         notes.put(&Part::Text(" "))?;
-        notes.put(&Part::Number(setting.old))?;
+        notes.put(&old)?;
         notes.put(&Part::Text(" -> "))?;
-        notes.put(&Part::Value(setting.new))
+        let new = self.text.value(self.pid, setting.variable, setting.new);
+        notes.put(&Part::Value(new))
     }
 
     // The message that an event sent or received, if it did.
@@ -140,6 +142,14 @@ impl ProcessView<'_> {
         }
     }
 
+    // The message as it is shown.
+    fn shown_message(&self, message: EventMessage) -> Part<'_> {
+        match message.sender {
+            None => self.message_to(message.other, message.value),
+            Some(_) => self.message_from(message.other, message.value),
+        }
+    }
+
     // Appends the message and where it came from, or went, to the last line, in words.
     fn put_message(
         &self,
@@ -148,7 +158,7 @@ impl ProcessView<'_> {
         message: EventMessage,
     ) -> Result<(), AllocError> {
         let word = Part::Text(word);
-        let value = Part::Number(message.value);
+        let value = self.shown_message(message);
         let other = self.process(message.other);
         match message.sender {
             None => notes.add_with("{}sent {} to {}", &[word, value, other]),
@@ -194,7 +204,7 @@ impl ProcessView<'_> {
     // Appends a message to the last line, with an arrow that points to the recipient, and the event that sent it.
     fn put_arrow(&self, notes: &mut Notes, message: EventMessage) -> Result<(), AllocError> {
         let is_received = message.sender.is_some();
-        notes.put(&Part::Number(message.value))?;
+        notes.put(&self.shown_message(message))?;
         notes.put(&Part::Text(if is_received { " < " } else { " > " }))?;
         notes.put(&self.process(message.other))?;
         if let Some(sender) = message.sender {

@@ -66,6 +66,21 @@ impl<'a> ProcessView<'a> {
         Part::Bytes(self.text.variable_name(self.pid, variable))
     }
 
+    /// A value of a variable, as it is shown.
+    pub fn value(&self, variable: u32, value: i64) -> Part<'a> {
+        Part::Shown(self.text.value(self.pid, variable, value))
+    }
+
+    /// A message that the process sends to another, as it is shown.
+    pub fn message_to(&self, target: Pid, value: i64) -> Part<'a> {
+        Part::Shown(self.text.message(self.pid, target, value))
+    }
+
+    /// A message that the process receives from another, as it is shown.
+    pub fn message_from(&self, source: Pid, value: i64) -> Part<'a> {
+        Part::Shown(self.text.message(source, self.pid, value))
+    }
+
     /// Appends an expression to the last line.
     #[cycle(expression)]
     pub fn put_expression(&self, notes: &mut Notes, expr: &Expr) -> Result<(), AllocError> {

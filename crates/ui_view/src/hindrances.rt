@@ -123,12 +123,14 @@ impl ProcessView<'_> {
         message: i64,
     ) -> Result<(), AllocError> {
         let mut after = env.copy()?;
-        if let Action::Receive { variable, .. } = &command.action {
+        let mut shown = Part::Number(message);
+        if let Action::Receive { source, variable } = &command.action {
+            shown = self.message_from(*source, message);
             if (*variable as usize) < after.len() {
                 after.set(*variable, message);
             }
         }
-        notes.add_with("with the message {}, ", &[Part::Number(message)])?;
+        notes.add_with("with the message {}, ", &[shown])?;
         self.put_faulting(notes, &after, command)
     }
 

@@ -24,6 +24,6 @@ pub use explainer::{Answered, Echo, Explainer, ReplyLines, Told};
 pub use expressions::{ProcessView, count_form};
 pub use finding::find_hindrance;
 pub use hindrance::Hindrance;
-pub use replies::{LabelPlace, NamedReply, named_refusal, named_reply};
+pub use replies::{LabelPlace, NamedReply, ValuePlace, named_refusal, named_reply};
 pub use values::{names_variable, put_value};
 pub use view::SourceView;

@@ -2,7 +2,7 @@
 
 use dbg_base::{Answer, Call, Choice, Cut, Done, Head, Name, Pid, Query, Refusal, Reply, Said};
 use std::alloc::{AllocError, Global};
-use ui_text::{Notes, Part, ProgramText};
+use ui_text::{NamedNumber, Notes, Part, ProgramText, ShownValue};
 
 /// Where a label is in a line, and the number of its command, in whose place it is.
 #[derive(Clone, Copy)]
@@ -12,11 +12,21 @@ pub struct LabelPlace {
     pub choice: Choice,
 }
 
-/// The line of a reply with the author's names, and a line end. A command that has a label is named by it.
+/// Where a word is in a line that is shown for a value, and the value, in whose place it is.
+#[derive(Clone, Copy)]
+pub struct ValuePlace {
+    pub from: usize,
+    pub to: usize,
+    pub value: i64,
+}
+
+/// The line of a reply with the author's names, and a line end. A command that has a label is named by it. Of the values of `vars` and `chan`
+/// those that have a type are shown as words. Their places are in order.
 #[derive(Drop)]
 pub struct NamedReply {
     pub line: Vec<u8>,
     pub label: Option<LabelPlace>,
+    pub values: Vec<ValuePlace>,
 }
 
 // A reply that is being written.
@@ -24,6 +34,7 @@ pub struct NamedReply {
 struct ReplyWords<'a> {
     text: &'a ProgramText,
     notes: Notes,
+    values: Vec<ValuePlace>,
 }
 
 impl ReplyWords<'_> {
@@ -64,14 +75,37 @@ impl ReplyWords<'_> {
         Ok(())
     }
 
+    // How many bytes there are.
+    fn len(&self) -> usize {
+        self.notes.line(0).bytes.len()
+    }
+
+    // Appends what is shown for a value. If it is a word, notes its place.
+    fn put_value(&mut self, value: i64, shown: ShownValue<'_>) -> Result<(), AllocError> {
+        let from = self.len();
+        self.notes.add_with("{}", &[Part::Shown(shown)])?;
+        let to = self.len();
+        match shown {
+            ShownValue::Plain(NamedNumber { name: None, .. }) => Ok(()),
+            _ => Ok(self.values.push(ValuePlace { from, to, value })?),
+        }
+    }
+
     // Appends a value for each variable of a process.
     fn put_values(&mut self, pid: Pid, values: &[i64]) -> Result<(), AllocError> {
         let text = self.text;
         for (variable, value) in (0u32..).zip(values) {
             self.put_name(text.variable_name(pid, variable))?;
-            self.notes.add_with("{}", &[Part::Number(*value)])?;
+            self.put_value(*value, text.value(pid, variable, *value))?;
         }
         Ok(())
+    }
+
+    // Appends a message of a channel.
+    fn put_message(&mut self, source: Pid, target: Pid, value: i64) -> Result<(), AllocError> {
+        let text = self.text;
+        self.notes.add(" ")?;
+        self.put_value(value, text.message(source, target, value))
     }
 
     // Appends a word and a process.
@@ -110,9 +144,9 @@ impl ReplyWords<'_> {
             return Ok(None);
         }
         self.notes.add(" ")?;
-        let from = self.notes.line(0).bytes.len();
+        let from = self.len();
         self.notes.add_with("{}", &[Part::Bytes(label)])?;
-        let to = self.notes.line(0).bytes.len();
+        let to = self.len();
         Ok(Some(LabelPlace { from, to, choice }))
     }
 
@@ -172,7 +206,7 @@ impl ReplyWords<'_> {
                 self.put_process("chan", *source)?;
                 self.put_process("", *target)?;
                 for message in messages.items() {
-                    self.notes.add_with(" {}", &[Part::Number(*message)])?;
+                    self.put_message(*source, *target, *message)?;
                 }
                 Ok(())
             }
@@ -206,19 +240,33 @@ impl ReplyWords<'_> {
 // The reply that these words are.
 fn finished(
     alloc: Global,
-    words: &ReplyWords<'_>,
+    words: ReplyWords<'_>,
     label: Option<LabelPlace>,
 ) -> Result<NamedReply, AllocError> {
-    let mut line = Vec::from_slice(alloc, words.notes.line(0).bytes)?;
+    let ReplyWords {
+        text: _,
+        notes,
+        values,
+    } = words;
+    let mut line = Vec::from_slice(alloc, notes.line(0).bytes)?;
     line.push(b'\n')?;
-    Ok(NamedReply { line, label })
+    Ok(NamedReply {
+        line,
+        label,
+        values,
+    })
 }
 
 // No words yet.
 fn begun(alloc: Global, text: &ProgramText) -> Result<ReplyWords<'_>, AllocError> {
     let mut notes = Notes::new(alloc);
     notes.say("")?;
-    Ok(ReplyWords { text, notes })
+    let values = Vec::new(alloc);
+    Ok(ReplyWords {
+        text,
+        notes,
+        values,
+    })
 }
 
 /// The line that answers a call, with the names of this text. Error: memory ran out.
@@ -241,7 +289,7 @@ pub fn named_reply(
         }
         (_, Said::Answered(_)) => None,
     };
-    finished(alloc, &words, label)
+    finished(alloc, words, label)
 }
 
 /// The line that refuses a line of which no call was made, with the names of this text. Error: memory ran out.
@@ -252,5 +300,5 @@ pub fn named_refusal(
 ) -> Result<NamedReply, AllocError> {
     let mut words = begun(alloc, text)?;
     words.put_refusal(refusal)?;
-    finished(alloc, &words, None)
+    finished(alloc, words, None)
 }

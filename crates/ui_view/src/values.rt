@@ -35,15 +35,27 @@ pub fn put_value(
     word: &mut &'static str,
     form: &'static str,
     name: &[Part<'_>],
-    value: i64,
+    value: Part<'_>,
 ) -> Result<(), AllocError> {
     notes.add(*word)?;
     *word = ", ";
     notes.add_with(form, name)?;
-    notes.add_with(" = {}", &[Part::Number(value)])
+    notes.add_with(" = {}", &[value])
 }
 
 impl ProcessView<'_> {
+    // Appends a variable and its value.
+    fn put_variable(
+        &self,
+        notes: &mut Notes,
+        word: &mut &'static str,
+        variable: u32,
+        value: i64,
+    ) -> Result<(), AllocError> {
+        let (name, value) = (self.variable(variable), self.value(variable, value));
+        put_value(notes, word, "{}", &[name], value)
+    }
+
     /// Appends all variables of the process and their values to the last line: the first one after this word, and the others after a comma.
     pub fn put_variables(
         &self,
@@ -53,7 +65,7 @@ impl ProcessView<'_> {
     ) -> Result<(), AllocError> {
         for variable in 0..self.program.variables(self.pid) {
             if let Some(value) = env.values().get(variable as usize) {
-                put_value(notes, word, "{}", &[self.variable(variable)], *value)?;
+                self.put_variable(notes, word, variable, *value)?;
             }
         }
         Ok(())
@@ -65,7 +77,7 @@ impl ProcessView<'_> {
         for variable in 0..self.program.variables(self.pid) {
             if let Some(value) = env.values().get(variable as usize) {
                 if names(expr, NamedValue::Variable(variable)) {
-                    put_value(notes, &mut word, "{}", &[self.variable(variable)], *value)?;
+                    self.put_variable(notes, &mut word, variable, *value)?;
                 }
             }
         }
@@ -86,7 +98,13 @@ impl ProcessView<'_> {
             if let Some(count) = env.counts(direction).get(process as usize) {
                 if names(expr, NamedValue::Count(direction, pid)) {
                     let form = count_form(direction);
-                    put_value(notes, word, form, &[self.process(pid)], i64::from(*count))?;
+                    put_value(
+                        notes,
+                        word,
+                        form,
+                        &[self.process(pid)],
+                        Part::Natural(*count),
+                    )?;
                 }
             }
         }

@@ -51,7 +51,7 @@ impl TextScene<'_> {
         needs.add(shown.pid, bytes_of(&words).len());
         match self.timeline.received_by(self.view.session.world, shown) {
             Some(received) if self.has_arrow_to_neighbour(received.source, shown.pid) => {
-                let label = self.received(received)?;
+                let label = self.received(shown.pid, received)?;
                 needs.add_arrow(received.source, shown.pid, &label);
                 Ok(())
             }

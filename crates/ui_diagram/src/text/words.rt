@@ -53,7 +53,7 @@ impl<'a> TextScene<'a> {
         let value = words(
             self.alloc,
             "{}{}",
-            &[Part::Text("="), Part::Number(setting.new)],
+            &[Part::Text("="), scope.value(setting.variable, setting.new)],
         )?;
         let used = bytes_of(&value).len().saturating_add(1);
         put_shortened(&mut line, bytes_of(&name), room.saturating_sub(used))?;
@@ -100,16 +100,12 @@ impl<'a> TextScene<'a> {
     // A message to or from a process, in so much room: the name of the process is cut before the value is.
     fn message(
         &self,
-        value: i64,
+        value: Part<'_>,
         sign: &'static str,
         partner: Pid,
         room: usize,
     ) -> Result<Notes, AllocError> {
-        let mut line = words(
-            self.alloc,
-            " {}{}",
-            &[Part::Number(value), Part::Text(sign)],
-        )?;
+        let mut line = words(self.alloc, " {}{}", &[value, Part::Text(sign)])?;
         let name = words(self.alloc, "{}", &[self.scope(partner).name()])?;
         let used = bytes_of(&line).len();
         put_shortened(&mut line, bytes_of(&name), room.saturating_sub(used))?;
@@ -118,12 +114,15 @@ impl<'a> TextScene<'a> {
 
     // The message that an event sent, or that it received from a process that is not shown, so that no arrow shows it.
     fn exchanged(&self, shown: ShownEvent, room: usize) -> Result<Notes, AllocError> {
+        let scope = self.scope(shown.pid);
         if let Some(sent) = self.timeline.sent_by(self.view.session.world, shown) {
-            return self.message(sent.value, ">", sent.target, room);
+            let value = scope.message_to(sent.target, sent.value);
+            return self.message(value, ">", sent.target, room);
         }
         match self.timeline.received_by(self.view.session.world, shown) {
             Some(received) if !self.selection.contains(received.source) => {
-                self.message(received.value, "<", received.source, room)
+                let value = scope.message_from(received.source, received.value);
+                self.message(value, "<", received.source, room)
             }
             _ => words(self.alloc, "", &[]),
         }
@@ -147,10 +146,10 @@ impl<'a> TextScene<'a> {
         Ok(line)
     }
 
-    /// The words at the arrow of a message that was received.
-    pub(super) fn received(&self, received: Received) -> Result<Notes, AllocError> {
-        let parts = [Part::Number(received.value), Part::Natural(received.sender)];
-        words(self.alloc, " {} of {} ", &parts)
+    /// The words at the arrow of a message that a process received.
+    pub(super) fn received(&self, pid: Pid, received: Received) -> Result<Notes, AllocError> {
+        let value = self.scope(pid).message_from(received.source, received.value);
+        words(self.alloc, " {} of {} ", &[value, Part::Natural(received.sender)])
     }
 
     /// The words at the arrow of the messages of a channel that are on their way, if there are some.
@@ -161,7 +160,7 @@ impl<'a> TextScene<'a> {
         }
         let mut label = words(self.alloc, " ", &[])?;
         for message in messages.items() {
-            label.add_with("{} ", &[Part::Number(*message)])?;
+            label.add_with("{} ", &[self.scope(from).message_to(to, *message)])?;
         }
         Ok(Some(label))
     }
