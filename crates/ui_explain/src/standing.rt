@@ -141,7 +141,7 @@ impl ExplainedSession<'_> {
                 .unwrap_or(0);
             if count > 0 {
                 let (form, name) = (count_form(direction), scope.process(Pid(other)));
-                put_value(notes, &mut word, form, &[name], Part::Natural(count))?;
+                put_value(notes, &mut word, form, &[name], &Part::Natural(count))?;
             }
         }
         Ok(())

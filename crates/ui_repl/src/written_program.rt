@@ -65,7 +65,7 @@ fn text_of(
         for variable in 0..program.variables(pid) {
             let plain_name = program.variable_name(pid, variable);
             let name = expansion.and_then(|expansion| expansion.variable_name(pid, variable));
-            written.add_variable(alloc, name.unwrap_or(name_bytes(&plain_name)))?;
+            written.add_variable(alloc, name.unwrap_or(name_bytes(&plain_name)), None)?;
         }
         for number in 0..program.commands(pid) {
             let plain_at = plain.next().unwrap_or(0);

@@ -1,9 +1,15 @@
 -- A line with words in place of values, word after word.
-use Rattle.std.proofs.Common.{◌≡◌, ℕ, List, [], ◌∷◌, ◌++◌, sym, ap, ◌∙◌, append_assoc, subst}
+use Rattle.std.proofs.Common.{◌≡◌, ℕ, List, [], ◌∷◌, ◌++◌, sym, ap, ◌∙◌, append_assoc, subst, take, drop}
+use Rattle.std.proofs.lemmas.List.{take-append-drop}
 use Rattle.std.specs.Prelude.{ℤ}
 use Rattle.std.specs.Fmt.{signed_decimal}
 use Rattle.ui_session.specs.Named.{HasWords, IsWordAfter, plain_text}
 use Rattle.ui_session.specs.Named.HasWords.{Plainly, InPlaceOf}
+
+-- a text is its two parts
+pub split_whole : (n : ℕ) (text before after : List ℕ) → before ≡ take n text → after ≡ drop n text → text ≡ before ++ after
+split_whole n text before after front back =
+    sym (ap (λ (t : List ℕ). t ++ after) front ∙ ap (λ (t : List ℕ). take n text ++ t) back ∙ take-append-drop n text)
 
 -- The line is read as what was read, and then as the rest of it is.
 abbrev pub ReadsOn : ℕ → List ℕ → List ℕ → List ℕ → Type 0

@@ -37,10 +37,13 @@ abbrev pub is_word_end : List ℕ → Bool
 is_word_end [] = false
 is_word_end (byte ∷ bytes) = not (is_ink byte)
 
--- a word that is after this byte, and that does not go on
+-- its last byte is this one
+abbrev pub EndsIn : ℕ → List ℕ → Type 0
+EndsIn byte text = (front : List ℕ) × (text ≡ front ++ byte ∷ [])
+
+-- a whole word that is after this byte
 pub record IsWordAfter (mark : ℕ) (before word after : List ℕ) : Type 0 where
-  pub front : List ℕ
-  pub marked : before ≡ front ++ mark ∷ []
+  pub marked : EndsIn mark before
   pub some : 0 < length word
   pub whole : list_all is_ink word ≡ true
   pub ends : is_word_end after ≡ true
@@ -57,8 +60,10 @@ HasValuesAfter line mark = ((rest : List ℕ) × (line ≡ codes "vars " ++ rest
     ⊎ ((rest : List ℕ) × (line ≡ codes "chan " ++ rest) × (mark ≡ 32))
 
 -- the line of a run that shows values, with the author's names, and with words in place of some of the values
-abbrev pub HasValueWords : List ℕ → List ℕ → Type 0
-HasValueWords due shown = (mark : ℕ) × HasValuesAfter due mark × HasWords mark due shown
+pub record HasValueWords (due shown : List ℕ) : Type 0 where
+  pub mark : ℕ
+  pub values : HasValuesAfter due mark
+  pub words : HasWords mark due shown
 
 -- the line of a run, or the same with the author's names
 abbrev pub named : Showing

@@ -1,8 +1,8 @@
 //! Replies with words in place of values.
 
-ghost use Rattle.std.specs.Prelude.{◌≡◌, ◌++◌, [], ◌∷◌, true, IfOk, IfSome, OnOk};
+ghost use Rattle.std.specs.Prelude.{◌≡◌, ◌++◌, true, IfOk, IfSome, OnOk};
 ghost use Rattle.std.specs.Fmt.{signed_decimal};
-ghost use Rattle.ui_session.specs.Named.{HasValueWords, HasValuesAfter, HasWords, IsWordAfter, is_word_end, plain_text};
+ghost use Rattle.ui_session.specs.Named.{EndsIn, HasValueWords, HasValuesAfter, HasWords, IsWordAfter, is_word_end, plain_text};
 
 use crate::named_replies::{is_ink, is_same, put_plain_text};
 use itoa::Buffer;
@@ -32,7 +32,7 @@ fn is_word_end(after: &[u8]) -> bool
 
 // Whether the last byte of a text is this one.
 fn ends_with(text: &[u8], mark: u8) -> bool
-    ensures { result ≡ true → (front : List ℕ) × (text.now ≡ front ++ mark ∷ []) }
+    ensures { result ≡ true → EndsIn mark text.now }
 {
     match text {
         [.., byte] => *byte == mark,

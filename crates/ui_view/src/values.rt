@@ -35,12 +35,13 @@ pub fn put_value(
     word: &mut &'static str,
     form: &'static str,
     name: &[Part<'_>],
-    value: Part<'_>,
+    value: &Part<'_>,
 ) -> Result<(), AllocError> {
     notes.add(*word)?;
     *word = ", ";
     notes.add_with(form, name)?;
-    notes.add_with(" = {}", &[value])
+    notes.add(" = ")?;
+    notes.put(value)
 }
 
 impl ProcessView<'_> {
@@ -53,7 +54,7 @@ impl ProcessView<'_> {
         value: i64,
     ) -> Result<(), AllocError> {
         let (name, value) = (self.variable(variable), self.value(variable, value));
-        put_value(notes, word, "{}", &[name], value)
+        put_value(notes, word, "{}", &[name], &value)
     }
 
     /// Appends all variables of the process and their values to the last line: the first one after this word, and the others after a comma.
@@ -103,7 +104,7 @@ impl ProcessView<'_> {
                         word,
                         form,
                         &[self.process(pid)],
-                        Part::Natural(*count),
+                        &Part::Natural(*count),
                     )?;
                 }
             }
