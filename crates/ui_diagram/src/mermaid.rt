@@ -155,7 +155,9 @@ impl MermaidSheet<'_> {
         match self.timeline.received_by(self.view.session.world, shown) {
             Some(received) if !self.selection.contains(received.source) => {
                 let from = self.scope(received.source).name();
-                let value = self.scope(shown.pid).message_from(received.source, received.value);
+                let value = self
+                    .scope(shown.pid)
+                    .message_from(received.source, received.value);
                 parts.say_with("receives {} from {}", &[value, from])
             }
             _ => Ok(()),

@@ -30,7 +30,13 @@ fn message_of(
     pid: Pid,
 ) -> Result<Option<Vec<u8>>, AllocError> {
     match view.world.rows().last(pid).map(Event::exchange) {
-        Some(Exchange::Took { source, message, .. }) => {
+        Some(
+            Exchange::Took {
+                source,
+                message,
+                ..
+            },
+        ) => {
             let mut words = Notes::new(alloc);
             let shown = Part::Shown(text.message(source, pid, message));
             words.say_with("{}", &[shown])?;

@@ -11,6 +11,7 @@ mod reply_forms;
 mod running;
 mod sentences;
 mod session_lines;
+mod value_types;
 mod words;
 mod written_program;
 

@@ -6,6 +6,7 @@ ghost use Rattle.shell_print.specs.declared.outcome.ServeFault.TheVariants.{Memo
 
 use crate::fault_places::FaultPlace;
 use crate::read_line::LineFault;
+use crate::value_types::{add_channel_types, add_types};
 use crate::words::without_seat;
 use dbg_base::{Choice, Name, Pid};
 use notation::{ExpandedProgram, Expansion, Fault, NotationError, Problem, expand_program};
@@ -49,6 +50,9 @@ fn text_of(
     program: &Program,
 ) -> Result<ProgramText, AllocError> {
     let mut written = ProgramText::new(alloc, text, expansion.is_some())?;
+    if let Some(expansion) = expansion {
+        add_types(&mut written, expansion)?;
+    }
     let offsets = command_offsets(alloc, text)?;
     let mut plain = offsets.iter().copied();
     for p in 0..program.processes() {
@@ -65,7 +69,8 @@ fn text_of(
         for variable in 0..program.variables(pid) {
             let plain_name = program.variable_name(pid, variable);
             let name = expansion.and_then(|expansion| expansion.variable_name(pid, variable));
-            written.add_variable(alloc, name.unwrap_or(name_bytes(&plain_name)), None)?;
+            let kind = expansion.and_then(|expansion| expansion.variable_type(pid, variable));
+            written.add_variable(alloc, name.unwrap_or(name_bytes(&plain_name)), kind)?;
         }
         for number in 0..program.commands(pid) {
             let plain_at = plain.next().unwrap_or(0);
@@ -73,6 +78,9 @@ fn text_of(
             let (at, label) = found.unwrap_or((plain_at, &[]));
             written.add_command(alloc, at, label)?;
         }
+    }
+    if let Some(expansion) = expansion {
+        add_channel_types(&mut written, expansion, program.processes())?;
     }
     Ok(written)
 }

@@ -148,8 +148,14 @@ impl<'a> TextScene<'a> {
 
     /// The words at the arrow of a message that a process received.
     pub(super) fn received(&self, pid: Pid, received: Received) -> Result<Notes, AllocError> {
-        let value = self.scope(pid).message_from(received.source, received.value);
-        words(self.alloc, " {} of {} ", &[value, Part::Natural(received.sender)])
+        let value = self
+            .scope(pid)
+            .message_from(received.source, received.value);
+        words(
+            self.alloc,
+            " {} of {} ",
+            &[value, Part::Natural(received.sender)],
+        )
     }
 
     /// The words at the arrow of the messages of a channel that are on their way, if there are some.
