@@ -29,7 +29,16 @@ function readable(text) {
   return UNUSUAL.test(text) ? text.replace(SEQUENCES, sequence).replace(INVISIBLE, numbered) : text;
 }
 
+// A value is its number, and after a blank the word that is shown for it, if one is. The number is looked up by the word.
+const numbers = new Map();
+function written(value) {
+  const end = value.indexOf(' '), word = value.slice(end + 1);
+  if (end > 0) numbers.set(word, value.slice(0, end));
+  return word;
+}
+
 const processes = session.processes, count = processes.length;
+for (const {variables} of processes) for (const variable of variables) variable[1] = written(variable[1]);
 const lines = values.filter(([text]) => typeof text === 'string'), lineOperations = lines.map(() => []);
 for (const value of values) if (typeof value[0] === 'number') lineOperations[value[0] - 1] = value.slice(1);
 for (const line of lines) {

@@ -12,6 +12,8 @@ function farLink(before) {
 // The event after `before` in its process. `far` is an earlier one. `depth` is where the event is drawn: the event before it, and the one
 // that sent its message, have a smaller depth.
 function eventAfter(before, k, sets, exchange) {
+  for (const set of sets) [set[1], set[2]] = [written(set[1]), written(set[2])];
+  if (exchange) exchange[2] = written(exchange[2]);
   return {p: before.p, n: before.n + 1, k, sets, exchange, before, far: farLink(before), depth: 0, sender: null, values: null, clock: null};
 }
 // The n-th item of the line that ends with this one.

@@ -4,7 +4,7 @@ use dbg_base::Name;
 use itoa::Buffer;
 use serde_json::Value;
 use std::alloc::{AllocError, Global};
-use ui_text::Notes;
+use ui_text::{Notes, Part, ShownValue};
 use ui_view::SourceView;
 
 /// The items of a list.
@@ -91,10 +91,16 @@ impl List {
         self.push(value)
     }
 
-    /// A value of the language, as a text of digits: it may be larger than a number of a script can be.
-    pub(crate) fn value(&mut self, value: i64) -> Result<(), AllocError> {
-        let mut buffer = Buffer::new();
-        self.text(buffer.format(value).as_bytes())
+    /// A value of the language, as a text of digits: it may be larger than a number of a script can be. If a word is shown for it, that
+    /// follows a blank.
+    pub(crate) fn value(&mut self, value: i64, shown: ShownValue<'_>) -> Result<(), AllocError> {
+        if shown.is_number() {
+            let mut buffer = Buffer::new();
+            return self.text(buffer.format(value).as_bytes());
+        }
+        let mut words = Notes::new(self.alloc);
+        words.say_with("{} {}", &[Part::Number(value), Part::Shown(shown)])?;
+        self.text(words.line(0).bytes)
     }
 
     /// The name of a breakpoint as its author wrote it, or none.

@@ -119,7 +119,8 @@ impl List {
         for variable in 0..program.variables(pid) {
             let mut start = self.another();
             start.text(text.variable_name(pid, variable))?;
-            start.value(program.start_value(pid, variable).unwrap_or(0))?;
+            let value = program.start_value(pid, variable).unwrap_or(0);
+            start.value(value, text.value(pid, variable, value))?;
             self.list(start)?;
         }
         Ok(())

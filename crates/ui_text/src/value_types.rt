@@ -53,6 +53,18 @@ pub enum ShownValue<'a> {
     Packed(PackedValue<'a>),
 }
 
+impl ShownValue<'_> {
+    /// A number.
+    pub fn number(number: i64) -> ShownValue<'static> {
+        ShownValue::Plain(NamedNumber { number, name: None })
+    }
+
+    /// Whether it is a number.
+    pub fn is_number(&self) -> bool {
+        matches!(self, ShownValue::Plain(named) if named.name.is_none())
+    }
+}
+
 // What is left of a packed value without these fields at its end.
 fn without_fields(value: i64, fields: &[MessageField]) -> i64 {
     let mut rest = value;

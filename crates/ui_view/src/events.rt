@@ -117,8 +117,7 @@ impl ProcessView<'_> {
         notes.put(&Part::Text(" "))?;
         notes.put(&old)?;
         notes.put(&Part::Text(" -> "))?;
-        let new = self.text.value(self.pid, setting.variable, setting.new);
-        notes.put(&Part::Value(new))
+        notes.put(&Part::Value(self.shown_value(setting.variable, setting.new)))
     }
 
     // The message that an event sent or received, if it did.
@@ -182,21 +181,22 @@ impl ProcessView<'_> {
         Ok(())
     }
 
-    /// Appends what an event did to the last line, in words.
+    /// Appends what an event did to the last line, in words. All values are numbers.
     pub fn put_event(
         &self,
         notes: &mut Notes,
         world: &World,
         event: &Event,
     ) -> Result<(), AllocError> {
-        self.put_settings(notes, event)?;
+        let view = self.with_numbers();
+        view.put_settings(notes, event)?;
         let word = if event.settings().is_empty() {
             ""
         } else {
             ", "
         };
-        match self.message_of(world, event) {
-            Some(message) => self.put_message(notes, word, message),
+        match view.message_of(world, event) {
+            Some(message) => view.put_message(notes, word, message),
             None => Ok(()),
         }
     }

@@ -4,14 +4,15 @@ use dbg_base::{Direction, Expr, Operator, Pid};
 use local_eval::Env;
 use proc_tree::{Action, Guarded, Program};
 use std::alloc::AllocError;
-use ui_text::{Notes, Part, ProgramText};
+use ui_text::{Notes, Part, ProgramText, ShownValue};
 
-/// A process of a program, with its names as they were written.
+/// A process of a program, with its names as they were written. Values may be shown as numbers alone.
 #[derive(Clone, Copy)]
 pub struct ProcessView<'a> {
     pub program: &'a Program,
     pub text: &'a ProgramText,
     pub pid: Pid,
+    has_numbers: bool,
 }
 
 fn operator_text(operator: Operator) -> &'static str {
@@ -43,7 +44,22 @@ pub fn count_form(direction: Direction) -> &'static str {
 impl<'a> ProcessView<'a> {
     /// A process of this program.
     pub fn new(program: &'a Program, text: &'a ProgramText, pid: Pid) -> ProcessView<'a> {
-        ProcessView { program, text, pid }
+        ProcessView {
+            program,
+            text,
+            pid,
+            has_numbers: false,
+        }
+    }
+
+    /// The same process, with numbers for all values.
+    pub(crate) fn with_numbers(&self) -> ProcessView<'a> {
+        ProcessView {
+            program: self.program,
+            text: self.text,
+            pid: self.pid,
+            has_numbers: true,
+        }
     }
 
     /// The name of the process.
@@ -66,19 +82,37 @@ impl<'a> ProcessView<'a> {
         Part::Bytes(self.text.variable_name(self.pid, variable))
     }
 
+    /// What is shown for a value of a variable.
+    pub(crate) fn shown_value(&self, variable: u32, value: i64) -> ShownValue<'a> {
+        if self.has_numbers {
+            ShownValue::number(value)
+        } else {
+            self.text.value(self.pid, variable, value)
+        }
+    }
+
     /// A value of a variable, as it is shown.
     pub fn value(&self, variable: u32, value: i64) -> Part<'a> {
-        Part::Shown(self.text.value(self.pid, variable, value))
+        Part::Shown(self.shown_value(variable, value))
+    }
+
+    // A message from a process to another, as it is shown.
+    fn message(&self, source: Pid, target: Pid, value: i64) -> Part<'a> {
+        if self.has_numbers {
+            Part::Number(value)
+        } else {
+            Part::Shown(self.text.message(source, target, value))
+        }
     }
 
     /// A message that the process sends to another, as it is shown.
     pub fn message_to(&self, target: Pid, value: i64) -> Part<'a> {
-        Part::Shown(self.text.message(self.pid, target, value))
+        self.message(self.pid, target, value)
     }
 
     /// A message that the process receives from another, as it is shown.
     pub fn message_from(&self, source: Pid, value: i64) -> Part<'a> {
-        Part::Shown(self.text.message(source, self.pid, value))
+        self.message(source, self.pid, value)
     }
 
     /// Appends an expression to the last line.

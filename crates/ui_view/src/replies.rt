@@ -2,7 +2,7 @@
 
 use dbg_base::{Answer, Call, Choice, Cut, Done, Head, Name, Pid, Query, Refusal, Reply, Said};
 use std::alloc::{AllocError, Global};
-use ui_text::{NamedNumber, Notes, Part, ProgramText, ShownValue};
+use ui_text::{Notes, Part, ProgramText, ShownValue};
 
 /// Where a label is in a line, and the number of its command, in whose place it is.
 #[derive(Clone, Copy)]
@@ -85,10 +85,10 @@ impl ReplyWords<'_> {
         let from = self.len();
         self.notes.add_with("{}", &[Part::Shown(shown)])?;
         let to = self.len();
-        match shown {
-            ShownValue::Plain(NamedNumber { name: None, .. }) => Ok(()),
-            _ => Ok(self.values.push(ValuePlace { from, to, value })?),
+        if shown.is_number() {
+            return Ok(());
         }
+        Ok(self.values.push(ValuePlace { from, to, value })?)
     }
 
     // Appends a value for each variable of a process.

@@ -41,7 +41,7 @@ fn has_same_rest(one: &World, other: &World, pid: Pid) -> bool {
 
 impl List {
     // The message of an event: 0, or the message with its value and its number in the channel.
-    fn exchange(&mut self, exchange: Exchange) -> Result<(), AllocError> {
+    fn exchange(&mut self, scope: ProcessView<'_>, exchange: Exchange) -> Result<(), AllocError> {
         let (way, pid, value, count) = match exchange {
             Exchange::Nothing => return self.number(0),
             Exchange::Sent {
@@ -55,9 +55,13 @@ impl List {
                 count,
             } => ("r", source, message, count),
         };
+        let shown = match exchange {
+            Exchange::Took { .. } => scope.text.message(pid, scope.pid, value),
+            Exchange::Sent { .. } | Exchange::Nothing => scope.text.message(scope.pid, pid, value),
+        };
         let mut message = self.another_of(way)?;
         message.number(i64::from(pid.0))?;
-        message.value(value)?;
+        message.value(value, shown)?;
         message.number(i64::from(count))?;
         self.list(message)
     }
@@ -68,8 +72,9 @@ impl List {
         for setting in event.settings() {
             let mut one = self.another();
             one.text(scope.text.variable_name(scope.pid, setting.variable))?;
-            one.value(setting.old)?;
-            one.value(setting.new)?;
+            let shown = |value| scope.text.value(scope.pid, setting.variable, value);
+            one.value(setting.old, shown(setting.old))?;
+            one.value(setting.new, shown(setting.new))?;
             settings.list(one)?;
         }
         self.list(settings)
@@ -79,7 +84,7 @@ impl List {
     fn event(&mut self, scope: ProcessView<'_>, event: &Event) -> Result<(), AllocError> {
         self.number(i64::from(event.choice().0))?;
         self.settings(scope, event)?;
-        self.exchange(event.exchange())
+        self.exchange(scope, event.exchange())
     }
 
     /// The last event of a process, as an operation that begins with this word.

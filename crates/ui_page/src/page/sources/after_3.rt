@@ -200,7 +200,7 @@ function readPart(text) {
     if (token === 'true' || token === 'false') return () => token === 'true';
     if ((token === 'sent' || token === 'got') && tokens[at] === '(') return countOf(token);
     if (token === '-') return (number => () => number)(-BigInt(tokens[at++]));
-    return /^\d/.test(token) ? (number => () => number)(BigInt(token)) : state => BigInt(state.values.get(token));
+    return /^\d/.test(token) ? (number => () => number)(BigInt(token)) : state => BigInt(numbers.get(state.values.get(token)) || state.values.get(token));
   }
   return expression();
 }
