@@ -8,6 +8,7 @@ import re
 
 from harness import TESTS, TOP, temporary_folder
 from harness.session import call
+from harness.value_words import ValueWords
 
 EXAMPLES = TOP / "examples"
 PLAIN = TESTS / "notation"
@@ -40,7 +41,9 @@ def plain_names(text):
 
 
 def read_back(suite, example, talk):
-    """The lines and replies of a session in the notation, as those of its plain session: with plain names, and with the numbers of commands."""
+    """The lines and replies of a session in the notation, as those of its plain session: with plain names, and with the numbers of commands and
+    of values."""
+    values = ValueWords(program(example))
     rows = [line.split("\t") for line in suite.rdbg("expand", "--names", example).output.decode().splitlines()]
     numbers = {(name, plain_names(label)): number for name, number, _, _, label in rows if label}
 
@@ -48,7 +51,7 @@ def read_back(suite, example, talk):
         words = plain_names(line).split(" ")
         if words[0] == "ok" and tuple(words[1:3]) in numbers:
             words[2] = numbers[tuple(words[1:3])]
-        return " ".join(words)
+        return values.plain_reply(" ".join(words))
 
     return "\n".join(map(plain_line, talk.split("\n")))
 
@@ -91,7 +94,10 @@ def check_direct(suite, example, plain):
     suite.same(f"{example.name}: an interactive session", read_back(suite, example, shown), wanted)
     for form in ["shiviz", "mermaid"]:
         drawn = [suite.rdbg("draw", "--as", form, example), suite.rdbg("draw", "--as", form, given=plain)]
-        suite.same(f"{example.name}: drawn as {form}", *(without_labels(picture.output.decode()) for picture in drawn))
+        shown, wanted = (without_labels(picture.output.decode()) for picture in drawn)
+        if form == "mermaid":
+            shown = ValueWords(program(example)).plain_picture(shown)
+        suite.same(f"{example.name}: drawn as {form}", shown, wanted)
     sizes = [suite.rdbg("check", "--explain", example), suite.rdbg("check", given=plain)]
     suite.same(f"{example.name}: its size", *(size.output.decode() for size in sizes))
 

@@ -11,6 +11,7 @@ from harness import TOP, Fault, sessions, temporary_folder
 from harness.page import HARNESS, Expected
 from harness.page_sources import GENERATED, SOURCES, generated, script
 from harness.session import Session, draw, short_name
+from harness.value_words import ValueWords
 
 
 def node(*words):
@@ -61,6 +62,7 @@ def session_problem(suite, plain, file, folder):
     expected = Expected(Session(suite, plain))
     (folder / "page.html").write_bytes(draw(suite, "html", file))
     states = plain_names(json.loads(node(HARNESS / "page_functions.js", SOURCES, folder / "page.html", *expected.state_lines)))
+    read_values(ValueWords(file.read_text(encoding="utf-8").partition("\n%%\n")[0]), states)
     problems = (state_problem(state, expected, n) for state, n in zip(states, expected.state_lines))
     return next(filter(None, problems), "")
 
@@ -72,6 +74,14 @@ def plain_names(value):
     if isinstance(value, list):
         return [plain_names(one) for one in value]
     return {plain_names(key): plain_names(one) for key, one in value.items()} if isinstance(value, dict) else value
+
+
+def read_values(values, states):
+    """Puts numbers in place of the words that are shown for values."""
+    for state in states:
+        for process in state["processes"]:
+            process["values"] = [[name, values.number(value)] for name, value in process["values"]]
+        state["messages"] = [[one, other, [values.number(value) for value in sent]] for one, other, sent in state["messages"]]
 
 
 def model_problem(suite, file, folder):
