@@ -48,10 +48,11 @@ def read_back(suite, example, talk):
     numbers = {(name, plain_names(label)): number for name, number, _, _, label in rows if label}
 
     def plain_line(line):
-        words = plain_names(line).split(" ")
+        sign = "> " if line.startswith("> ") else ""
+        words = plain_names(line.removeprefix(sign)).split(" ")
         if words[0] == "ok" and tuple(words[1:3]) in numbers:
             words[2] = numbers[tuple(words[1:3])]
-        return values.plain_reply(" ".join(words))
+        return sign + values.plain_reply(" ".join(words))
 
     return "\n".join(map(plain_line, talk.split("\n")))
 
