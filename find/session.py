@@ -9,7 +9,7 @@ from find.language import read_parts, read_program
 from find.model import Breakpoint, Model
 
 END = "%%"
-DIRECTIVES = ("help", "?", "on", "list", "state", "line", "draw", "session")  # of interactive sessions: they have no reply
+DIRECTIVES = ("help", "?", "on", "list", "state", "line", "how", "from", "draw", "session")  # of interactive sessions: they have no reply
 LAST = ("quit", "exit", "q")
 SEAT = "1"
 BREAK_LINE = re.compile(r"\s*(\d+\s+)?(for\b.*:\s*)?(batch\s+)?break\b")

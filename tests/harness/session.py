@@ -3,7 +3,7 @@ import re
 
 from harness import TOP, Fault
 
-DIRECTIVES = ("help", "on", "list", "state", "line", "draw", "session", "quit")  # of interactive sessions; they have no reply
+DIRECTIVES = ("help", "on", "list", "state", "line", "how", "from", "draw", "session", "quit")  # of interactive sessions; they have no reply
 
 
 def call(line):

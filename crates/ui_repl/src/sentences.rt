@@ -7,6 +7,7 @@ use dbg_base::{Call, Name, Pid, Refusal, Said};
 use dbg_command::SessionView;
 use shell_parse::next_word;
 use std::alloc::{AllocError, Global};
+use ui_causes::CausalSession;
 use ui_diagram::{ALL_EVENTS, draw_text};
 use ui_explain::{Before, ExplainedSession};
 use ui_refusals::RefusingSession;
@@ -202,6 +203,10 @@ impl<'a> Sentences<'a> {
             Directive::List(name) => explained.tell_list(notes, name),
             Directive::State(name) => explained.tell_state(notes, name),
             Directive::Line(name) => Ok(explained.tell_line(notes, name)?),
+            Directive::How(name, number) => CausalSession { view }.tell_how(notes, name, number),
+            Directive::From(name, variable) => {
+                CausalSession { view }.tell_from(notes, name, variable)
+            }
             Directive::Draw => self.draw(notes, view),
             Directive::Session => Ok(commands.tell_lines(notes)?),
             Directive::TooLong(word) => Ok(tell_too_long(notes, word)?),

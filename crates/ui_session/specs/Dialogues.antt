@@ -15,7 +15,9 @@ quit_words = codes "quit" ∷ codes "exit" ∷ codes "q" ∷ []
 
 -- the words of directives
 abbrev pub directive_words : List (List ℕ)
-directive_words = codes "help" ∷ codes "?" ∷ codes "on" ∷ codes "list" ∷ codes "state" ∷ codes "line" ∷ codes "draw" ∷ codes "session" ∷ quit_words
+directive_words =
+    codes "help" ∷ codes "?" ∷ codes "on" ∷ codes "list" ∷ codes "state" ∷ codes "line" ∷ codes "how" ∷ codes "from" ∷ codes "draw"
+    ∷ codes "session" ∷ quit_words
 
 -- there is no word, or it begins a comment or an expectation
 abbrev pub is_remark : List ℕ → Bool

@@ -18,6 +18,8 @@ pub(crate) enum Verb {
     List,
     State,
     Line,
+    How,
+    From,
     Draw,
     Session,
     Quit,
@@ -48,6 +50,10 @@ fn verb_of(word: &[u8]) -> Option<Verb>
         Some(Verb::State)
     } else if word == b"line".as_slice() {
         Some(Verb::Line)
+    } else if word == b"how".as_slice() {
+        Some(Verb::How)
+    } else if word == b"from".as_slice() {
+        Some(Verb::From)
     } else if word == b"draw".as_slice() {
         Some(Verb::Draw)
     } else if word == b"session".as_slice() {
@@ -93,23 +99,39 @@ pub(crate) fn sort(line: &[u8]) -> LineSort
 }
 
 impl Verb {
-    // Whether a word may follow it.
-    fn has_argument(self) -> bool {
-        !matches!(self, Verb::Draw | Verb::Session | Verb::Quit)
+    // How many words may follow it.
+    fn arguments(self) -> usize {
+        match self {
+            Verb::Draw | Verb::Session | Verb::Quit => 0,
+            Verb::Help | Verb::On | Verb::List | Verb::State | Verb::Line => 1,
+            Verb::How | Verb::From => 2,
+        }
     }
 
-    // The directive with this argument, which is empty if there is none.
-    fn with(self, argument: &[u8]) -> Directive<'_> {
+    // The directive with these arguments, each of which is empty if it is missing.
+    fn with<'a>(self, argument: &'a [u8], second: &'a [u8]) -> Directive<'a> {
         match self {
             Verb::Help => Directive::Help(argument),
             Verb::On => Directive::On(argument),
             Verb::List => Directive::List(argument),
             Verb::State => Directive::State(argument),
             Verb::Line => Directive::Line(argument),
+            Verb::How => Directive::How(argument, second),
+            Verb::From => Directive::From(argument, second),
             Verb::Draw => Directive::Draw,
             Verb::Session => Directive::Session,
             Verb::Quit => Directive::Quit,
         }
+    }
+}
+
+// The next word that is not one of a comment, or nothing, and what follows it.
+fn next_argument(line: &[u8]) -> (&[u8], &[u8]) {
+    let (word, rest) = next_word(line);
+    if is_remark(word) {
+        (&[], &[])
+    } else {
+        (word, rest)
     }
 }
 
@@ -119,17 +141,15 @@ pub(crate) fn directive(line: &[u8]) -> Directive<'_> {
     let Some(verb) = verb_of(word) else {
         return Directive::Remark;
     };
-    let (argument, rest) = next_word(rest);
-    if verb != Verb::Quit && argument.first() == Some(&b'>') {
+    if verb != Verb::Quit && next_word(rest).0.first() == Some(&b'>') {
         return Directive::ToFile(word);
     }
-    if is_remark(argument) {
-        return verb.with(&[]);
-    }
-    if verb.has_argument() && is_remark(next_word(rest).0) {
-        verb.with(argument)
-    } else {
-        Directive::TooLong(word)
+    let (argument, rest) = next_argument(rest);
+    let (second, rest) = next_argument(rest);
+    let given = [argument, second, next_argument(rest).0];
+    match given.get(verb.arguments()) {
+        Some([]) | None => verb.with(argument, second),
+        Some(_) => Directive::TooLong(word),
     }
 }
 

@@ -31,12 +31,14 @@ static COMMANDS: [&str; 20] = [
 ];
 
 // The lines that an interactive session answers itself.
-static DIRECTIVES: [&str; 8] = [
+static DIRECTIVES: [&str; 10] = [
     "`on [P]`: shows which commands can fire now, of all processes or of P",
     "`list [P]`: shows all commands, and what prevents each from firing",
     "`state [P]`: shows all variables and counts, and the messages on their way",
     "`line P`: shows the events of P, and what it can redo",
     "`draw`: draws a picture: a column for each process, events downward",
+    "`how P N`: says what led to P's N-th event, what it led to, and what undoes it",
+    "`from P X`: says where the value of P's variable X came from, the last step first",
     "`session`: shows the lines that lead to the present state, to keep them or to play them again",
     "`help [WORD]`: shows these lines, or what a command or the number of a refusal means; so does `?`",
     "`quit`: ends the session; so do `exit` and `q`",
@@ -102,7 +104,14 @@ fn takes(form: &str, arguments: usize) -> bool {
 
 // Whether this line of the help is about a word that is short only where no other word is, so that older short lines keep their meaning.
 fn is_late(line: &str) -> bool {
-    is_about(line, b"session")
+    is_about(line, b"session") || is_about(line, b"how") || is_about(line, b"from")
+}
+
+// Whether another word than one of these is short in this way, so that they are not.
+fn is_taken(word: &[u8]) -> bool {
+    let lines = COMMANDS.iter().chain(&DIRECTIVES);
+    let mut older = lines.filter(|line| !is_late(line));
+    older.any(|line| is_begun_by(line, word))
 }
 
 /// Whether this is a command or directive.
@@ -110,18 +119,19 @@ pub fn is_whole_word(word: &[u8]) -> bool {
     help_line(word).is_some()
 }
 
-/// The command or directive of which this word is the start, if there is exactly one that can have so many more words. `session` gives way to
-/// any other.
+/// The command or directive of which this word is the start, if there is exactly one that can have so many more words. The newest directives
+/// give way to all other words.
 pub fn whole_word(word: &[u8], arguments: usize) -> Option<&'static str> {
     if word.is_empty() {
         return None;
     }
+    let is_taken = is_taken(word);
     let mut found = None;
     for line in COMMANDS.iter().chain(&DIRECTIVES) {
-        if is_begun_by(line, word) && takes(form_of(line), arguments) {
+        let is_found = is_begun_by(line, word) && takes(form_of(line), arguments);
+        if is_found && !(is_taken && is_late(line)) {
             match found {
                 None => found = Some(word_of(line)),
-                Some(_) if is_late(line) => {}
                 Some(_) => return None,
             }
         }

@@ -15,6 +15,10 @@ pub enum Directive<'a> {
     State(&'a [u8]),
     /// The events of the process of this name.
     Line(&'a [u8]),
+    /// What led to an event of the process of this name: the one of this number.
+    How(&'a [u8], &'a [u8]),
+    /// Where the value of a variable of the process of this name came from: of the variable of this name.
+    From(&'a [u8], &'a [u8]),
     /// A picture of the events.
     Draw,
     /// The lines that lead to the present state.
@@ -34,7 +38,9 @@ impl<'a> Directive<'a> {
             Directive::On(name)
             | Directive::List(name)
             | Directive::State(name)
-            | Directive::Line(name) => name,
+            | Directive::Line(name)
+            | Directive::How(name, _)
+            | Directive::From(name, _) => name,
             _ => &[],
         }
     }

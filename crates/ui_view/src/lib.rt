@@ -25,5 +25,5 @@ pub use expressions::{ProcessView, count_form};
 pub use finding::find_hindrance;
 pub use hindrance::Hindrance;
 pub use replies::{LabelPlace, NamedReply, ValuePlace, named_refusal, named_reply};
-pub use values::{names_variable, put_value};
+pub use values::{NamedValue, names, names_variable, put_value};
 pub use view::SourceView;

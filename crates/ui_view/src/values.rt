@@ -6,14 +6,15 @@ use local_eval::Env;
 use std::alloc::AllocError;
 use ui_text::{Notes, Part};
 
-// A value of a process that an expression may name.
+/// A value of a process that an expression may name.
 #[derive(Clone, Copy, PartialEq, Eq)]
-enum NamedValue {
+pub enum NamedValue {
     Variable(u32),
     Count(Direction, Pid),
 }
 
-fn names(expr: &Expr, named: NamedValue) -> bool {
+/// Whether an expression of a process names this value of the process.
+pub fn names(expr: &Expr, named: NamedValue) -> bool {
     match expr {
         Expr::Number(_) | Expr::Truth(_) => false,
         Expr::Variable(variable) => named == NamedValue::Variable(*variable),

@@ -1,0 +1,15 @@
+//! Causes: what led to an event, where a value came from, and what an undo would cost.
+#![tactic(auto)]
+
+mod chains;
+mod event_words;
+mod how;
+mod neighbours;
+mod origin;
+mod origins;
+mod past;
+mod rows;
+mod undoing;
+mod written;
+
+pub use how::CausalSession;
