@@ -8,8 +8,8 @@ use ui_text::{Notes, Part};
 use ui_view::SourceView;
 
 // The word before the number of an event, and before those of several ones. In a model, a reply names a command without a label by its number.
-fn number_word(view: &SourceView<'_>, is_one: bool) -> &'static str {
-    match (view.text.is_model(), is_one) {
+fn number_word(is_model: bool, is_one: bool) -> &'static str {
+    match (is_model, is_one) {
         (false, _) => " ",
         (true, true) => " event ",
         (true, false) => " events ",
@@ -34,14 +34,13 @@ pub(crate) fn put_range(
     to: u32,
 ) -> Result<(), AllocError> {
     let scope = view.scope(pid);
-    let word = number_word(&view, from == to);
     notes.put(&scope.name())?;
-    notes.put(&Part::Text(word))?;
+    notes.put(&Part::Text(number_word(view.text.is_model(), from == to)))?;
     notes.put(&Part::Natural(from))?;
-    if from == to {
-        return Ok(());
+    if from < to {
+        notes.add_with("-{}", &[Part::Natural(to)])?;
     }
-    notes.add_with("-{}", &[Part::Natural(to)])
+    Ok(())
 }
 
 /// Appends the place of the command of an event to the last line, at this column.
