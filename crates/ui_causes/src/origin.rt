@@ -1,8 +1,12 @@
 //! Which event wrote a value.
 
+ghost use Rattle.std.specs.Prelude.{◌≡◌, [], IfOk, slice_index_or};
+ghost use Rattle.dbg_base.specs.LocalStates.{no_state};
+ghost use Rattle.ui_causes.specs.Origins.{write_at, FindsWrite, IsOrigin};
+
 use crate::written::{Written, value_in, write_of};
 use dbg_base::Pid;
-use event_rows::{Event, Rows};
+use event_rows::Rows;
 use std::alloc::AllocError;
 use ui_view::NamedValue;
 
@@ -25,15 +29,26 @@ impl Origin {
     }
 }
 
+// What the event of a process at this position, from 0, writes to this value, if it does.
+fn write_at(rows: &Rows, pid: Pid, at: u32, named: NamedValue) -> Option<Written>
+    ensures { result ≡ write_at named (slice_index_or rows.now.events pid.0 []) at }
+{
+    match rows.event(pid, at as usize) {
+        Some(event) => write_of(event, named),
+        None => None,
+    }
+}
+
 // The last of the first n events of a process that writes this value, by its number from 1, and what it writes.
-fn last_write(rows: &Rows, pid: Pid, n: u32, named: NamedValue) -> Option<(u32, Written)> {
+fn last_write(rows: &Rows, pid: Pid, n: u32, named: NamedValue) -> Option<(u32, Written)>
+    ensures { FindsWrite named (slice_index_or rows.now.starts pid.0 no_state) (slice_index_or rows.now.events pid.0 []) n result }
+{
     let mut left = n;
     while left > 0 {
-        let event = rows.event(pid, (left - 1) as usize);
-        if let Some(found) = event.and_then(|event: &Event| write_of(event, named)) {
-            return Some((left, found));
+        match write_at(rows, pid, left - 1, named) {
+            Some(found) => return Some((left, found)),
+            None => left -= 1,
         }
-        left -= 1;
     }
     None
 }
@@ -45,7 +60,10 @@ pub(crate) fn find_origin(
     pid: Pid,
     n: u32,
     named: NamedValue,
-) -> Result<Origin, AllocError> {
+) -> Result<Origin, AllocError>
+    ensures { IfOk result (λ origin. IsOrigin named (slice_index_or rows.now.starts pid.0 no_state)
+        (slice_index_or rows.now.events pid.0 []) n origin) }
+{
     match last_write(rows, pid, n, named) {
         Some((number, found)) => Ok(Origin::Event(number, found)),
         None => {
