@@ -1,5 +1,11 @@
 //! What happened before an event, and what it led to.
 
+ghost use Rattle.std.specs.Prelude.{◌≡◌, ◌↔◌, List, IfOk, IfErr, IfSome, IsTrue, MatchOption};
+ghost use Rattle.dbg_base.specs.declared.refusal.Refusal.TheVariants.{Memory};
+ghost use Rattle.dbg_base.specs.Orders as orders;
+ghost use Rattle.dbg_base.specs.Trees as tree;
+ghost use Rattle.ui_causes.specs.CausalPasts.{IsEvent, AreEvents, IsBefore, CountsPast, IsPast, IsFirstAfter};
+
 use causal_world::World;
 use dbg_base::{Cut, Pid, Refusal};
 use std::alloc::Global;
@@ -11,41 +17,63 @@ pub(crate) struct EventPlace {
     pub(crate) number: u32,
 }
 
+/// Whether the world has this event.
+pub(crate) fn is_event(world: &World, event: EventPlace) -> bool
+    ensures { IsTrue result ↔ IsEvent world.now event }
+{
+    if event.pid.0 >= world.tally().processes() || event.number == 0 {
+        return false;
+    }
+    event.number <= world.place(event.pid)
+}
+
 /// The events before an event, with itself: how many of each process. None if there is no such event. Error: `Memory`, if an allocation
 /// fails.
 pub(crate) fn causal_past(
     alloc: Global,
     world: &World,
     event: EventPlace,
-) -> Result<Option<Cut>, Refusal> {
-    if event.pid.0 >= world.tally().processes() || event.number > world.place(event.pid) {
+) -> Result<Option<Cut>, Refusal>
+    ensures past { IfOk result (λ past. MatchOption past (¬ IsEvent world.now event) (λ cut. IsPast world.now event cut)) }
+    ensures refuses { IfErr result (λ refusal. refusal ≡ Memory) }
+{
+    if !is_event(world, event) {
         return Ok(None);
     }
     Ok(Some(world.clock(alloc, event.pid, event.number)?))
 }
 
 /// How many events of a process are in the causal past of an event, itself included. 0 if there is no such event.
-pub(crate) fn count_before(world: &World, event: EventPlace, of: Pid) -> u32 {
-    if event.pid.0 >= world.tally().processes() || event.number > world.place(event.pid) {
+pub(crate) fn count_before(world: &World, event: EventPlace, of: Pid) -> u32
+    ensures { CountsPast world.now event of.0 result }
+{
+    if !is_event(world, event) {
         return 0;
     }
     world.clock_part(event.pid, event.number, of)
 }
 
 /// Whether an event is another one, or happened before it.
-pub(crate) fn is_in_past(world: &World, earlier: EventPlace, event: EventPlace) -> bool {
-    earlier.number <= count_before(world, event, earlier.pid)
+pub(crate) fn is_before(world: &World, earlier: EventPlace, event: EventPlace) -> bool
+    ensures { (P : tree.Program) (E : List orders.Event) → AreEvents P E world.now → IsEvent world.now event
+        → IsTrue result ↔ IsBefore P E earlier event }
+{
+    let count = count_before(world, event, earlier.pid);
+    1 <= earlier.number && earlier.number <= count
 }
 
 /// The number, from 1, of the first event of a process that is an event, or happened after it. If there is none, it is one more than the
 /// process has events.
-pub(crate) fn first_after(world: &World, event: EventPlace, pid: Pid) -> u32 {
-    let place = world.place(pid);
-    let mut number = 1u32;
-    while number <= place && !is_in_past(world, event, EventPlace { pid, number }) {
-        number = number.saturating_add(1);
+pub(crate) fn first_after(world: &World, event: EventPlace, pid: Pid) -> u32
+    ensures { IsFirstAfter world.now event pid.0 result }
+{
+    for earlier in 0..world.place(pid) {
+        let number = earlier + 1;
+        if is_before(world, event, EventPlace { pid, number }) {
+            return number;
+        }
     }
-    number
+    world.place(pid).saturating_add(1)
 }
 
 /// How many events are in the causal past of an event, itself included.
