@@ -56,6 +56,19 @@ fn false_part<'e>(expr: &'e Expr, env: &Env) -> &'e Expr {
     part
 }
 
+// Whether an expression is the check of a packed message that each field is in its range: 0 is divided by a quotient of 1.
+fn is_range_check(expr: &Expr) -> bool {
+    let Expr::Binary(Operator::Divide, left, right) = expr else {
+        return false;
+    };
+    match (&**left, &**right) {
+        (Expr::Number(0), Expr::Binary(Operator::Divide, one, _)) => {
+            matches!(&**one, Expr::Number(1))
+        }
+        _ => false,
+    }
+}
+
 impl ProcessView<'_> {
     // Appends an expression to the last line. Of a long one it is the beginning.
     fn put_shortened(&self, notes: &mut Notes, expr: &Expr) -> Result<(), AllocError> {
@@ -73,9 +86,14 @@ impl ProcessView<'_> {
 
     // Appends an expression that faults, the part of it that faults, and the values of the names in it to the last line.
     fn put_fault(&self, notes: &mut Notes, env: &Env, expr: &Expr) -> Result<(), AllocError> {
+        let part = faulting_part(expr, env);
+        if self.text.is_model() && part.is_some_and(is_range_check) {
+            notes.add("a field of a message is outside its range")?;
+            return self.put_values(notes, env, expr);
+        }
         self.put_shortened(notes, expr)?;
         notes.add(" faults")?;
-        if let Some(part) = faulting_part(expr, env) {
+        if let Some(part) = part {
             notes.add(" at ")?;
             self.put_shortened(notes, part)?;
         }
