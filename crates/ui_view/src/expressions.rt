@@ -15,6 +15,25 @@ pub struct ProcessView<'a> {
     has_numbers: bool,
 }
 
+// Whether an operator compares numbers.
+fn is_comparison(operator: Operator) -> bool {
+    match operator {
+        Operator::Equal
+        | Operator::NotEqual
+        | Operator::Less
+        | Operator::LessOrEqual
+        | Operator::Greater
+        | Operator::GreaterOrEqual => true,
+        Operator::Add
+        | Operator::Subtract
+        | Operator::Multiply
+        | Operator::Divide
+        | Operator::Remainder
+        | Operator::And
+        | Operator::Or => false,
+    }
+}
+
 fn operator_text(operator: Operator) -> &'static str {
     match operator {
         Operator::Add => "+",
@@ -129,11 +148,28 @@ impl<'a> ProcessView<'a> {
             Expr::Negate(operand) => self.put_with_sign(notes, "(- ", operand),
             Expr::Binary(operator, left, right) => {
                 notes.add("(")?;
-                self.put_expression(notes, left)?;
+                self.put_operand(notes, left, *operator, right)?;
                 notes.add_with(" {} ", &[Part::Text(operator_text(*operator))])?;
-                self.put_expression(notes, right)?;
+                self.put_operand(notes, right, *operator, left)?;
                 notes.add(")")
             }
+        }
+    }
+
+    // Appends an operand of an operator. A number that is compared with a variable is shown as a value of that.
+    #[cycle(expression)]
+    fn put_operand(
+        &self,
+        notes: &mut Notes,
+        operand: &Expr,
+        operator: Operator,
+        other: &Expr,
+    ) -> Result<(), AllocError> {
+        match (operand, other) {
+            (Expr::Number(number), Expr::Variable(variable)) if is_comparison(operator) => {
+                notes.add_with("{}", &[self.value(*variable, *number)])
+            }
+            _ => self.put_expression(notes, operand),
         }
     }
 
