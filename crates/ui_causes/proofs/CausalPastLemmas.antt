@@ -39,7 +39,7 @@ moved_before : (P : Program) (E : List Event) (event one other : EventPlace) →
 moved_before P E event one other pids numbers before = (
   before.0,
   subst (λ (n : ℕ). IsInPast P E event.pid.0 (event.number - 1) other.pid.0 (n - 1)) numbers
-  (subst (λ (p : ℕ). IsInPast P E event.pid.0 (event.number - 1) p (one.number - 1)) pids before.1),
+      (subst (λ (p : ℕ). IsInPast P E event.pid.0 (event.number - 1) p (one.number - 1)) pids before.1),
 )
 
 module _ (P : Program) (E : List Event) (w : Scene) (are : AreEvents P E w) where
@@ -79,16 +79,16 @@ module _ (P : Program) (E : List Event) (w : Scene) (are : AreEvents P E w) wher
   still_before event earlier later is same first le before =
       elim (cases_eq earlier.number later.number) [
         | inl e ↦ (
-            before.0,
-            subst (λ (n : ℕ). IsInPast P E event.pid.0 (event.number - 1) later.pid.0 (n - 1)) e
-            (subst (λ (q : ℕ). IsInPast P E event.pid.0 (event.number - 1) q (earlier.number - 1)) same before.1),
-          )
+          before.0,
+          subst (λ (n : ℕ). IsInPast P E event.pid.0 (event.number - 1) later.pid.0 (n - 1)) e
+              (subst (λ (q : ℕ). IsInPast P E event.pid.0 (event.number - 1) q (earlier.number - 1)) same before.1),
+        )
         | inr ne ↦ (
-            before.0,
-            inl (past_then P E event.pid.0 (event.number - 1) earlier.pid.0 (earlier.number - 1) later.pid.0 (later.number - 1)
-            (subst (λ (q : ℕ). HappenedBefore P E q (earlier.number - 1) later.pid.0 (later.number - 1)) (sym same)
-            (Earlier (omega (arith, first, le, ne)) (in_line later is))) before.1),
-          )
+          before.0,
+          inl (past_then P E event.pid.0 (event.number - 1) earlier.pid.0 (earlier.number - 1) later.pid.0 (later.number - 1)
+              (subst (λ (q : ℕ). HappenedBefore P E q (earlier.number - 1) later.pid.0 (later.number - 1)) (sym same)
+              (Earlier (omega (arith, first, le, ne)) (in_line later is))) before.1),
+        )
       ]
 
 -- the clock that is counted

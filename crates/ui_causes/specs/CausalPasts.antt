@@ -7,6 +7,7 @@ use Rattle.dbg_base.specs.SystemStates.{history_of, place_at}
 use Rattle.dbg_base.specs.Reference.{IsInPast}
 use Rattle.causal_world.specs.Scenes.{Scene, IsWorldOf}
 use Rattle.ui_causes.specs.declared.past.EventPlace.{EventPlace}
+use Rattle.ui_causes.specs.declared.messages.Hop.{Hop}
 
 -- the world has this event
 pub record IsEvent (w : Scene) (event : EventPlace) : Type 0 where
@@ -39,3 +40,11 @@ abbrev pub IsFirstAfter : Scene → EventPlace → ℕ → ℕ → Type 0
 IsFirstAfter w event q first =
     (P : Program) (E : List Event) → AreEvents P E w → IsEvent w event → (later : EventPlace) → later.pid.0 ≡ q → IsEvent w later
     → (first ≤ later.number) ↔ IsBefore P E event later
+
+-- in each order of the events, the first is the second, or happened before it
+abbrev pub HappenedBefore : Scene → EventPlace → EventPlace → Type 0
+HappenedBefore w earlier event = (P : Program) (E : List Event) → AreEvents P E w → IsEvent w event → IsBefore P E earlier event
+
+-- the message was sent and received before the event, or by it
+abbrev pub IsOnTheWay : Scene → EventPlace → Hop → Type 0
+IsOnTheWay w event hop = HappenedBefore w hop.sender event × HappenedBefore w hop.receiver event

@@ -1,19 +1,14 @@
 //! The shortest chains of messages that lead to an event.
 
+ghost use Rattle.std.specs.Prelude.{IfOk};
+ghost use Rattle.std.specs.List.{All};
+ghost use Rattle.ui_causes.specs.CausalPasts.{IsOnTheWay};
+
+use crate::messages::{Hop, is_on_the_way, received};
 use crate::past::EventPlace;
 use causal_world::World;
 use dbg_base::Pid;
-use event_rows::{Event, Exchange};
 use std::alloc::{AllocError, Global};
-use ui_view::sending;
-
-/// A message: the event that sent it, the event that received it, and its value.
-#[derive(Clone, Copy)]
-pub(crate) struct Hop {
-    pub(crate) sender: EventPlace,
-    pub(crate) receiver: EventPlace,
-    pub(crate) value: i64,
-}
 
 // A place from which the event is reached: by this message, and from where that was received. The event itself has no message.
 #[derive(Clone, Copy)]
@@ -34,30 +29,13 @@ pub(crate) struct Chains {
 
 // The last message from a process that another one received, up to an event of it.
 fn last_message(world: &World, receiver: EventPlace, source: Pid) -> Option<Hop> {
-    let rows = world.rows();
-    for number in (1..=receiver.number).rev() {
-        let event = rows.event(receiver.pid, (number as usize).saturating_sub(1));
-        match event.map(Event::exchange) {
-            Some(
-                Exchange::Took {
-                    source: from,
-                    message,
-                    count,
-                },
-            ) if from == source => {
-                let sender = sending(world, source, receiver.pid, count);
-                return Some(Hop {
-                    sender: EventPlace {
-                        pid: source,
-                        number: sender,
-                    },
-                    receiver: EventPlace {
-                        pid: receiver.pid,
-                        number,
-                    },
-                    value: message,
-                });
-            }
+    for before in (0..receiver.number).rev() {
+        let at = EventPlace {
+            pid: receiver.pid,
+            number: before.saturating_add(1),
+        };
+        match received(world, at) {
+            Some(hop) if hop.sender.pid == source => return Some(hop),
             _ => {}
         }
     }
@@ -157,9 +135,17 @@ impl Chains {
         best
     }
 
-    /// The messages of a chain with the fewest messages from a process, in order. There is none if no event of the process is before the
-    /// event, or if it is a process's own event.
-    pub(crate) fn from(&self, alloc: Global, pid: Pid) -> Result<Vec<Hop>, AllocError> {
+    /// The messages of a chain with the fewest messages from a process to this event, in order. There is none if no event of the process is
+    /// before it, or if it is an event of the process itself.
+    pub(crate) fn from(
+        &self,
+        alloc: Global,
+        world: &World,
+        event: EventPlace,
+        pid: Pid,
+    ) -> Result<Vec<Hop>, AllocError>
+        ensures { IfOk result (λ hops. All (IsOnTheWay world.now event) hops.items) }
+    {
         let mut hops = Vec::new(alloc);
         let mut at = self.first.get(pid.0 as usize).copied().unwrap_or(None);
         for _ in 0..self.reaches.len() {
@@ -169,7 +155,9 @@ impl Chains {
             let Some(hop) = reach.hop else {
                 break;
             };
-            hops.push(hop)?;
+            if is_on_the_way(world, event, hop) {
+                hops.push(hop)?;
+            }
             at = Some(reach.next);
         }
         Ok(hops)

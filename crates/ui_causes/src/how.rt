@@ -1,16 +1,16 @@
 //! What led to an event.
 
 use crate::event_words::{put_command_place, put_place};
+use crate::messages::received;
 use crate::neighbours::EventView;
 use crate::origin::{Origin, find_origin};
 use crate::past::EventPlace;
 use crate::rows::Rows;
 use dbg_base::limits::OPEN_PARENTHESES;
 use dbg_base::{Direction, Expr, Name, Operator, Pid, Refusal};
-use event_rows::{Event, Exchange};
 use std::alloc::{AllocError, Global};
 use ui_text::{Notes, Part};
-use ui_view::{EventNews, NamedValue, SourceView, count_form, names, sending};
+use ui_view::{EventNews, NamedValue, SourceView, count_form, names};
 
 // The room of what is said of a part of a guard, before the place of the command that made it so.
 const REASON: usize = 40;
@@ -125,25 +125,15 @@ impl EventView<'_> {
     }
 
     // Says who sent the message that the event received, if it did.
-    fn tell_message(&self, notes: &mut Notes, event: &Event) -> Result<(), AllocError> {
-        let Exchange::Took {
-            source,
-            message,
-            count,
-        } = event.exchange()
-        else {
+    fn tell_message(&self, notes: &mut Notes) -> Result<(), AllocError> {
+        let Some(hop) = received(self.view.session.world, self.event) else {
             return Ok(());
         };
-        let world = self.view.session.world;
-        let sender = EventPlace {
-            pid: source,
-            number: sending(world, source, self.event.pid, count),
-        };
         self.rows.begin(notes, "  its message", &[])?;
-        notes.add_with("{} sent by ", &[Part::Number(message)])?;
-        put_place(notes, self.view, sender)?;
+        notes.add_with("{} sent by ", &[Part::Number(hop.value)])?;
+        put_place(notes, self.view, hop.sender)?;
         let column = self.rows.column.saturating_add(REASON);
-        put_command_place(notes, self.view, sender, column)
+        put_command_place(notes, self.view, hop.sender, column)
     }
 
     // Says what led to the event.
@@ -160,7 +150,7 @@ impl EventView<'_> {
         if let Some(command) = session.program.command(pid, event.choice()) {
             self.tell_guard(notes, &command.guard)?;
         }
-        self.tell_message(notes, event)?;
+        self.tell_message(notes)?;
         self.tell_neighbours(notes)
     }
 }

@@ -4,6 +4,7 @@
 mod chains;
 mod event_words;
 mod how;
+mod messages;
 mod neighbours;
 mod origin;
 mod origins;

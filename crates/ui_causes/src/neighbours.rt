@@ -1,7 +1,8 @@
 //! Sentences about the events before and after an event.
 
-use crate::chains::{Chains, Hop};
+use crate::chains::Chains;
 use crate::event_words::{put_place, put_range};
+use crate::messages::Hop;
 use crate::past::{EventPlace, causal_past, first_after};
 use crate::rows::{Rows, new_words};
 use crate::undoing::{UndoCommand, find_undoing};
@@ -127,7 +128,8 @@ impl<'a> EventView<'a> {
 
     // Says by which messages a process led to the event, if it did.
     fn tell_chain(&self, notes: &mut Notes, chains: &Chains, pid: Pid) -> Result<(), AllocError> {
-        let hops = chains.from(notes.alloc(), pid)?;
+        let world = self.view.session.world;
+        let hops = chains.from(notes.alloc(), world, self.event, pid)?;
         let Some(first) = hops.first() else {
             return Ok(());
         };

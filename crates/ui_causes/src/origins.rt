@@ -2,14 +2,14 @@
 
 use crate::event_words::{put_command_place, put_place};
 use crate::how::{CausalSession, named_value, named_values, put_named};
+use crate::messages::received;
 use crate::origin::{Origin, find_origin};
 use crate::past::{EventPlace, height};
 use dbg_base::{Expr, Pid, Refusal};
-use event_rows::{Event, Exchange};
 use proc_tree::{Action, Guarded};
 use std::alloc::AllocError;
 use ui_text::{Notes, Part};
-use ui_view::{NamedValue, SourceView, names, sending};
+use ui_view::{NamedValue, SourceView, names};
 
 // At most this many steps are shown.
 const STEPS: usize = 32;
@@ -137,63 +137,79 @@ fn received_by(command: &Guarded) -> Option<u32> {
     }
 }
 
+// The variable that a step set, if it set one.
+fn variable_of(step: Step) -> Option<u32> {
+    match step.what {
+        What::Named(NamedValue::Variable(variable)) => Some(variable),
+        _ => None,
+    }
+}
+
 impl Steps<'_> {
+    // Says that an event assigned a value, and notes from which values that comes.
+    fn tell_assigned(
+        &mut self,
+        notes: &mut Notes,
+        event: EventPlace,
+        variable: u32,
+        expr: &Expr,
+        received: Option<u32>,
+    ) -> Result<(), AllocError> {
+        let scope = self.view.scope(event.pid);
+        notes.add_with("{} := ", &[scope.variable(variable)])?;
+        scope.put_expression(notes, expr)?;
+        self.note_expression(event, expr, received)
+    }
+
+    // Says what an event sent. If the step is about the message, notes from which values it comes.
+    fn tell_sent(
+        &mut self,
+        notes: &mut Notes,
+        step: Step,
+        target: Pid,
+        expr: &Expr,
+    ) -> Result<(), AllocError> {
+        let scope = self.view.scope(step.event.pid);
+        let name = scope.process(target);
+        if step.what != What::Message {
+            notes.add("sent to ")?;
+            return notes.put(&name);
+        }
+        notes.add_with("{} > {}: ", &[Part::Number(step.value), name])?;
+        scope.put_expression(notes, expr)?;
+        self.note_expression(step.event, expr, None)
+    }
+
+    // Says what an event received, and from whom. If the step is about a variable, notes that its value was sent.
+    fn tell_received(&mut self, notes: &mut Notes, step: Step) -> Result<(), AllocError> {
+        let Some(hop) = received(self.view.session.world, step.event) else {
+            return Ok(());
+        };
+        notes.add_with("{} < ", &[Part::Number(hop.value)])?;
+        put_place(notes, self.view, hop.sender)?;
+        if variable_of(step).is_none() {
+            return Ok(());
+        }
+        self.note(hop.sender, What::Message, hop.value)
+    }
+
     // Says what an event did, and notes from which values that comes.
     fn tell_deed(
         &mut self,
         notes: &mut Notes,
         step: Step,
-        event: &Event,
         command: &Guarded,
     ) -> Result<(), AllocError> {
-        let scope = self.view.scope(step.event.pid);
-        let variable = match step.what {
-            What::Named(NamedValue::Variable(variable)) => Some(variable),
-            _ => None,
-        };
-        if let Some(expr) = variable.and_then(|variable| assigned(command, variable)) {
-            put_named(
-                notes,
-                self.view,
-                step.event.pid,
-                NamedValue::Variable(variable.unwrap_or(0)),
-            )?;
-            notes.add(" := ")?;
-            scope.put_expression(notes, expr)?;
-            return self.note_expression(step.event, expr, received_by(command));
+        if let Some(variable) = variable_of(step) {
+            if let Some(expr) = assigned(command, variable) {
+                let own = received_by(command);
+                return self.tell_assigned(notes, step.event, variable, expr, own);
+            }
         }
-        match (event.exchange(), &command.action, step.what) {
-            (Exchange::Sent { target, value, .. }, Action::Send { value: expr, .. }, what) => {
-                notes.add_with("{} > {}", &[Part::Number(value), scope.process(target)])?;
-                if what != What::Message {
-                    return Ok(());
-                }
-                notes.add(": ")?;
-                scope.put_expression(notes, expr)?;
-                self.note_expression(step.event, expr, None)
-            }
-            (
-                Exchange::Took {
-                    source,
-                    message,
-                    count,
-                },
-                _,
-                _,
-            ) => {
-                let number = sending(self.view.session.world, source, step.event.pid, count);
-                let sender = EventPlace {
-                    pid: source,
-                    number,
-                };
-                notes.add_with("{} < ", &[Part::Number(message)])?;
-                put_place(notes, self.view, sender)?;
-                if variable.is_none() {
-                    return Ok(());
-                }
-                self.note(sender, What::Message, message)
-            }
-            _ => Ok(()),
+        match &command.action {
+            Action::Local => Ok(()),
+            Action::Send { target, value } => self.tell_sent(notes, step, *target, value),
+            Action::Receive { .. } => self.tell_received(notes, step),
         }
     }
 
@@ -228,7 +244,7 @@ impl Steps<'_> {
         put_place(notes, self.view, step.event)?;
         notes.tab(deed)?;
         if let Some(command) = session.program.command(pid, event.choice()) {
-            self.tell_deed(notes, step, event, command)?;
+            self.tell_deed(notes, step, command)?;
         }
         put_command_place(notes, self.view, step.event, deed.saturating_add(DEED))
     }

@@ -1,8 +1,13 @@
 //! The command that undoes an event, and what it undoes besides.
 
-use crate::past::EventPlace;
+ghost use Rattle.std.specs.Prelude.{◌≡◌, ◌-◌, IfOk, IfErr, MatchOption, slice_set};
+ghost use Rattle.dbg_base.specs.declared.refusal.Refusal.TheVariants.{Memory};
+ghost use Rattle.ui_causes.specs.CausalPasts.{IsEvent};
+ghost use Rattle.ui_causes.specs.Undoings.{IsChosen, IsUndoing};
+
+use crate::past::{EventPlace, is_event};
 use causal_world::World;
-use dbg_base::{Cut, Pid, Refusal};
+use dbg_base::{Cut, Refusal};
 use std::alloc::Global;
 
 /// A command that undoes an event.
@@ -21,14 +26,19 @@ pub(crate) struct Undoing {
     pub(crate) left: Cut,
 }
 
-// Whether all events of the other processes are left.
-fn leaves_others(world: &World, pid: Pid, left: &Cut) -> bool {
-    for p in 0..world.tally().processes() {
-        if p != pid.0 && left.count(Pid(p)) != world.place(Pid(p)) {
-            return false;
-        }
+// An undo if the event may be undone alone, so that these are left, and a rollback otherwise.
+fn chosen(world: &World, event: EventPlace, left: &Cut, alone: &Cut) -> UndoCommand
+    requires { alone.now ≡ slice_set world.now.state.places event.pid.0 (event.number - 1) }
+    ensures { IsChosen world.now event left.now result }
+{
+    let rest = event.number.saturating_sub(1);
+    if event.number != world.place(event.pid) || *left != *alone {
+        return UndoCommand::Rollback(rest);
     }
-    true
+    match world.can_undo(event.pid) {
+        Ok(()) => UndoCommand::Undo,
+        Err(_) => UndoCommand::Rollback(rest),
+    }
 }
 
 /// The command that undoes an event, and all events that depend on it. None if there is no such event. Error: `Memory`, if an allocation
@@ -37,19 +47,18 @@ pub(crate) fn find_undoing(
     alloc: Global,
     world: &World,
     event: EventPlace,
-) -> Result<Option<Undoing>, Refusal> {
-    let EventPlace { pid, number } = event;
-    let place = world.place(pid);
-    if pid.0 >= world.tally().processes() || number == 0 || number > place {
+) -> Result<Option<Undoing>, Refusal>
+    ensures undoes { IfOk result (λ found. MatchOption found (¬ IsEvent world.now event)
+        (λ undoing. IsUndoing world.now event undoing.command undoing.left)) }
+    ensures refuses { IfErr result (λ refusal. refusal ≡ Memory) }
+{
+    if !is_event(world, event) {
         return Ok(None);
     }
-    let rest = number - 1;
-    let left = world.rollback_cut(alloc, pid, rest)?;
-    let is_last = number == place && leaves_others(world, pid, &left);
-    let command = if is_last && world.can_undo(pid).is_ok() {
-        UndoCommand::Undo
-    } else {
-        UndoCommand::Rollback(rest)
-    };
+    let rest = event.number.saturating_sub(1);
+    let left = world.rollback_cut(alloc, event.pid, rest)?;
+    let mut alone = world.places(alloc)?;
+    alone.set(event.pid, rest);
+    let command = chosen(world, event, &left, &alone);
     Ok(Some(Undoing { command, left }))
 }

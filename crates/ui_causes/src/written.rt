@@ -60,7 +60,7 @@ fn counted(count: u32) -> Written
 }
 
 // What an exchange writes to a count of messages to this process, or from it.
-fn count_of(exchange: Exchange, direction: Direction, pid: Pid) -> Option<Written> 
+fn count_of(exchange: Exchange, direction: Direction, pid: Pid) -> Option<Written>
     ensures { result ≡ count_written direction pid.0 exchange }
 {
     match (direction, exchange) {
