@@ -15,6 +15,7 @@ use notation_tree::model::{Tables, Visible};
 use notation_tree::scope::{Binding, ModelScope};
 use notation_tree::syntax::Expression;
 use notation_tree::token::{Mark, SourceToken, SourceTokenKind, part};
+use notation_tree::words::is_reserved;
 use std::alloc::Global;
 
 /// The precedences of operators, weakest first; `not` is between `And` and `Comparison`.
@@ -53,16 +54,6 @@ pub struct ModelParser<'a> {
     declaration: Option<usize>,
     // How many `for` are open.
     repeats: u32,
-}
-
-// The reserved words of the process language.
-const RESERVED: [&str; 12] = [
-    "process", "var", "when", "send", "recv", "true", "false", "and", "or", "not", "sent", "got",
-];
-
-// Whether the word is reserved.
-fn is_reserved(word: &[u8]) -> bool {
-    RESERVED.iter().any(|reserved| reserved.as_bytes() == word)
 }
 
 impl<'a> ModelParser<'a> {

@@ -11,3 +11,4 @@ pub mod scope;
 pub mod syntax;
 pub mod token;
 pub mod types;
+pub mod words;

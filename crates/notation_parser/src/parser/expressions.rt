@@ -2,32 +2,13 @@
 
 ghost use Rattle.std.specs.Prelude.{◌≡◌, ◌+◌, IfOk};
 
-use super::{Level, ModelParser, Written, is_reserved};
-use dbg_base::{Direction, Operator};
+use super::{Level, ModelParser, Written};
+use dbg_base::Operator;
 use notation_tree::fault::{Expanding, ExpansionStop, Expected, Problem};
 use notation_tree::scope::Binding;
 use notation_tree::syntax::{Binder, Each, Expression, FormNode, Link, Reference, enclosed};
 use notation_tree::token::{Mark, SourceTokenKind};
-
-// The form that a word begins.
-fn form_of(word: &[u8]) -> Option<FormNode> {
-    match word {
-        b"all" => Some(FormNode::All),
-        b"some" => Some(FormNode::Some),
-        b"sum" => Some(FormNode::Sum),
-        b"at_least" => Some(FormNode::AtLeast),
-        _ => None,
-    }
-}
-
-// What a word says that is counted.
-fn direction_of(word: &[u8]) -> Option<Direction> {
-    match word {
-        b"sent" => Some(Direction::Sent),
-        b"got" => Some(Direction::Got),
-        _ => None,
-    }
-}
+use notation_tree::words::{direction_of, form_of, is_reserved};
 
 // As many arguments are found as are wanted.
 fn check_arguments(wanted: usize, found: usize, at: usize) -> Expanding<()> {
@@ -35,11 +16,6 @@ fn check_arguments(wanted: usize, found: usize, at: usize) -> Expanding<()> {
         return Ok(());
     }
     Err(ExpansionStop::Bad(Problem::Arguments { wanted, found }, at))
-}
-
-/// Whether a word begins a form: `all`, `some`, `sum` or `at_least`.
-pub(super) fn is_form(word: &[u8]) -> bool {
-    form_of(word).is_some()
 }
 
 impl<'a> ModelParser<'a> {

@@ -1,6 +1,5 @@
 //! Declarations and items.
 
-use super::expressions::is_form;
 use super::{Level, ModelParser};
 use notation_tree::fault::{Expanding, ExpansionStop, Expected, Problem};
 use notation_tree::limits::{NESTING, PARAMETERS, REPEATS};
@@ -10,6 +9,7 @@ use notation_tree::syntax::{
     Binder, Constant, DeclarationNode, Definition, Expression, ItemNode, ProcessNode, VariableNode,
 };
 use notation_tree::token::{Mark, SourceToken};
+use notation_tree::words::is_form;
 use std::alloc::Global;
 
 // Items in braces, with the offsets of these.

@@ -1,7 +1,6 @@
 //! Messages: their fields, and the definitions that pack and unpack them.
 
 use super::ModelParser;
-use super::expressions::is_form;
 use dbg_base::Operator;
 use notation_tree::fault::{Expanding, ExpansionStop, Meaning, Problem};
 use notation_tree::limits::{NESTING, PARAMETERS};
@@ -10,6 +9,7 @@ use notation_tree::scope::Binding;
 use notation_tree::syntax::{DeclarationNode, Definition, Expression, place};
 use notation_tree::token::Mark;
 use notation_tree::types::{FieldName, FieldNode, MessageNode, TypeNode, has_field};
+use notation_tree::words::is_form;
 
 // The bounds of the range of a field, its enum if it is that of one, and whether it begins with 0.
 #[derive(Drop)]
