@@ -2,7 +2,8 @@
 
 use crate::forms::say_of_word;
 use crate::names::{Declaration, DeclaredAs, find_declaration, near_name, process_around};
-use crate::notes::{Notes, Part};
+use crate::notes::Notes;
+use crate::part::Part;
 use crate::source::{prefix_word, suffix_word};
 use dbg_base::{FaultKind, ProgFault};
 use std::alloc::{AllocError, Global};

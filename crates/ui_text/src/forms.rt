@@ -1,7 +1,8 @@
 //! The command words and directives, with what each does.
 
-use crate::notes::{Notes, Part};
+use crate::notes::Notes;
 use crate::numbers::meaning;
+use crate::part::Part;
 use std::alloc::{AllocError, Global};
 use strsim::osa_distance;
 

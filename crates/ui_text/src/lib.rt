@@ -9,6 +9,7 @@ mod indices;
 mod names;
 mod notes;
 mod numbers;
+mod part;
 mod source;
 mod value_types;
 
@@ -20,7 +21,7 @@ pub use forms::{
 };
 pub use indices::index_count;
 pub use names::{Declaration, DeclaredAs, find_declaration};
-pub use notes::{NoteLine, Notes, Part, StyleChange};
+pub use notes::{NoteLine, Notes, StyleChange};
 pub use numbers::meaning;
+pub use part::{NamedNumber, PackedValue, Part, ShownValue};
 pub use source::{ProgramText, command_offsets, is_word_byte, prefix_word};
-pub use value_types::{NamedNumber, PackedValue, ShownValue};

@@ -1,8 +1,7 @@
 //! The lines of an explanation, made of parts.
 
 use crate::indices::base_length;
-use crate::value_types::{NamedNumber, PackedValue, ShownValue};
-use dbg_base::Name;
+use crate::part::{NamedNumber, PackedValue, Part, ShownValue};
 use itoa::Buffer;
 use shell_io::Style;
 use std::alloc::{AllocError, Global};
@@ -18,23 +17,6 @@ const ROOM: usize = 256;
 
 // What is before a line in the text: the end of the line before it, and two blanks.
 const BEGIN: &[u8] = b"\n  ";
-
-/// A part of a line: words, bytes, a name, a number, a value as it is shown, or how many events there are. `Indexed` is a name with the
-/// indices at its end in brackets. The name of a process with its number, and a new value, have a style of their own.
-#[derive(Clone, Copy)]
-pub enum Part<'a> {
-    Text(&'a str),
-    Bytes(&'a [u8]),
-    Name(Name),
-    Indexed(Name),
-    Number(i64),
-    Natural(u32),
-    Count(usize),
-    Events(u32),
-    Process(&'a [u8], u32),
-    Shown(ShownValue<'a>),
-    Value(ShownValue<'a>),
-}
 
 /// A style that a line has from this byte on, up to the next change.
 #[derive(Clone, Copy)]

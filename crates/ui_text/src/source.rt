@@ -1,6 +1,7 @@
 //! A program as it was written: its text, its names, and the places of its commands.
 
-use crate::value_types::{ShownValue, ValueTypes};
+use crate::part::ShownValue;
+use crate::value_types::ValueTypes;
 use dbg_base::{Choice, Pid};
 use itoa::Buffer;
 use std::alloc::{AllocError, Global};

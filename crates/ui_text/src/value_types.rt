@@ -1,5 +1,6 @@
 //! The types of the values of a model, and what is shown for a value of a type.
 
+use crate::part::{NamedNumber, PackedValue, ShownValue};
 use std::alloc::{AllocError, Global};
 
 // The name of a value of an enum.
@@ -9,12 +10,12 @@ struct ValueName {
     name: Vec<u8>,
 }
 
-// A field of a message: the least number in it, how many numbers it has from there, and the type of which they are, if they have names.
+/// A field of a message: the least number in it, how many numbers it has from there, and the type of which they are, if they have names.
 #[derive(Drop)]
-struct MessageField {
-    low: i64,
-    width: i64,
-    kind: Option<usize>,
+pub(crate) struct MessageField {
+    pub(crate) low: i64,
+    pub(crate) width: i64,
+    pub(crate) kind: Option<usize>,
 }
 
 // A type: an enum has names, and a message a name and fields, which are packed into one number. The last field counts 1.
@@ -30,74 +31,13 @@ pub(crate) struct ValueTypes {
     types: Vec<ValueType>,
 }
 
-/// A number, and the name that is shown for it, if it has one.
-#[derive(Clone, Copy)]
-pub struct NamedNumber<'a> {
-    pub number: i64,
-    pub name: Option<&'a [u8]>,
-}
-
-/// A value of a message type.
-#[derive(Clone, Copy)]
-pub struct PackedValue<'a> {
-    types: &'a ValueTypes,
-    name: &'a [u8],
-    fields: &'a [MessageField],
-    value: i64,
-}
-
-/// What is shown for a value: a number or a name, or of a message its type with the fields.
-#[derive(Clone, Copy)]
-pub enum ShownValue<'a> {
-    Plain(NamedNumber<'a>),
-    Packed(PackedValue<'a>),
-}
-
-impl ShownValue<'_> {
-    /// A number.
-    pub fn number(number: i64) -> ShownValue<'static> {
-        ShownValue::Plain(NamedNumber { number, name: None })
-    }
-
-    /// Whether it is a number.
-    pub fn is_number(&self) -> bool {
-        matches!(self, ShownValue::Plain(named) if named.name.is_none())
-    }
-}
-
-// What is left of a packed value without these fields at its end.
-fn without_fields(value: i64, fields: &[MessageField]) -> i64 {
+/// What is left of a packed value without these fields at its end.
+pub(crate) fn without_fields(value: i64, fields: &[MessageField]) -> i64 {
     let mut rest = value;
     for field in fields.iter().rev() {
         rest = rest.checked_div(field.width).unwrap_or(0);
     }
     rest
-}
-
-impl<'a> PackedValue<'a> {
-    /// The name of the type.
-    pub fn name(&self) -> &'a [u8] {
-        self.name
-    }
-
-    /// How many fields it has.
-    pub fn len(&self) -> usize {
-        self.fields.len()
-    }
-
-    /// The field of this number, from 0. It is 0 if there is none.
-    pub fn field(&self, at: usize) -> NamedNumber<'a> {
-        let after = self.fields.get(at.saturating_add(1)..).unwrap_or(&[]);
-        match self.fields.get(at) {
-            Some(field) => {
-                let rest = without_fields(self.value, after);
-                let above = rest.checked_rem(field.width).unwrap_or(0);
-                self.types
-                    .named(field.kind, field.low.saturating_add(above))
-            }
-            None => self.types.named(None, 0),
-        }
-    }
 }
 
 impl ValueTypes {
@@ -155,8 +95,8 @@ impl ValueTypes {
         self.types.get(kind?)
     }
 
-    // A number, with its name in a type.
-    fn named(&self, kind: Option<usize>, number: i64) -> NamedNumber<'_> {
+    /// A number, with its name in a type.
+    pub(crate) fn named(&self, kind: Option<usize>, number: i64) -> NamedNumber<'_> {
         let name = match self.get(kind) {
             Some(ValueType::Enum(names)) => names
                 .iter()

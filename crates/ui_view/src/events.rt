@@ -203,15 +203,20 @@ impl ProcessView<'_> {
 
     // Appends a message to the last line, with an arrow that points to the recipient, and the event that sent it.
     fn put_arrow(&self, notes: &mut Notes, message: EventMessage) -> Result<(), AllocError> {
-        let is_received = message.sender.is_some();
-        notes.put(&self.shown_message(message))?;
-        notes.put(&Part::Text(if is_received { " < " } else { " > " }))?;
-        notes.put(&self.process(message.other))?;
-        if let Some(sender) = message.sender {
-            notes.put(&Part::Text(number_word(self.text)))?;
-            notes.put(&Part::Natural(sender))?;
+        let sign = Part::Text(if message.sender.is_some() {
+            " < "
+        } else {
+            " > "
+        });
+        let value = self.shown_message(message);
+        notes.add_with("{}{}{}", &[value, sign, self.process(message.other)])?;
+        match message.sender {
+            Some(sender) => {
+                let word = Part::Text(number_word(self.text));
+                notes.add_with("{}{}", &[word, Part::Natural(sender)])
+            }
+            None => Ok(()),
         }
-        Ok(())
     }
 }
 
@@ -244,11 +249,10 @@ impl SourceView<'_> {
         let columns = EventColumns::of(self.session.program, self.text);
         notes.begin_line(Style::Plain)?;
         if news == EventNews::MadeByBatch {
-            notes.put(&Part::Text("  "))?;
+            notes.add("  ")?;
         }
-        notes.put(&scope.head())?;
-        notes.put(&Part::Text(number_word(self.text)))?;
-        notes.put(&Part::Count(number))?;
+        let word = Part::Text(number_word(self.text));
+        notes.add_with("{}{}{}", &[scope.head(), word, Part::Count(number)])?;
         if columns.has_messages {
             notes.tab(columns.message)?;
             if let Some(message) = scope.message_of(world, event) {
@@ -257,10 +261,11 @@ impl SourceView<'_> {
         }
         notes.tab(columns.settings)?;
         if news == EventNews::Undone {
-            notes.put(&Part::Text("undone: "))?;
+            notes.add("undone: ")?;
         }
         scope.put_settings(notes, event)?;
         notes.tab_in(Style::Place, columns.command)?;
-        notes.put(&Part::Bytes(self.text.shown_place(pid, event.choice())))
+        let place = Part::Bytes(self.text.shown_place(pid, event.choice()));
+        notes.add_with("{}", &[place])
     }
 }
