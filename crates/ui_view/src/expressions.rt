@@ -72,7 +72,7 @@ impl<'a> ProcessView<'a> {
     }
 
     /// The same process, with numbers for all values.
-    pub(crate) fn with_numbers(&self) -> ProcessView<'a> {
+    pub fn with_numbers(&self) -> ProcessView<'a> {
         ProcessView {
             program: self.program,
             text: self.text,

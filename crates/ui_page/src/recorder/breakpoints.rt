@@ -46,7 +46,7 @@ impl SearchChange<'_> {
 }
 
 impl List {
-    // A conjunct of a breakpoint: its process, and its expression as text.
+    // A conjunct of a breakpoint: its process, and its expression as text, with numbers, and then as it is shown, if that is another text.
     fn conjunct(
         &mut self,
         alloc: Global,
@@ -55,10 +55,16 @@ impl List {
     ) -> Result<(), AllocError> {
         let mut words = Notes::new(alloc);
         words.say("")?;
+        scope.with_numbers().put_expression(&mut words, expr)?;
+        words.say("")?;
         scope.put_expression(&mut words, expr)?;
+        let (text, shown) = (words.line(0).bytes, words.line(1).bytes);
         let mut conjunct = self.another();
         conjunct.number(i64::from(scope.pid.0))?;
-        conjunct.text(words.line(0).bytes)?;
+        conjunct.text(text)?;
+        if shown != text {
+            conjunct.text(shown)?;
+        }
         self.list(conjunct)
     }
 

@@ -38,12 +38,12 @@ function searchDetails(point) {
 }
 
 // The parts of a predicate, as one condition.
-function predicateOf({parts}) { return parts.map(([p, text]) => processes[p].name + ' ' + text).join(' and '); }
+function predicateOf({parts}) { return parts.map(([p, text, shown]) => processes[p].name + ' ' + (shown || text)).join(' and '); }
 // A process in a cut: its events in it and in all, its part of the predicate, since when that holds, and its variables.
 function cutRow({cut, parts}, p) {
   const n = cut[p], part = parts.find(([q]) => q === p), made = state.lines[p].done.n;
   const values = [...valuesAt(madeEvent(p, n))].map(([name, value]) => name + '=' + value).join(' ');
-  return [processes[p].name, n + ' of ' + made, part ? part[1] : '', part ? heldSince(part[1], p, n) : '', values];
+  return [processes[p].name, n + ' of ' + made, part ? part[2] || part[1] : '', part ? heldSince(part[1], p, n) : '', values];
 }
 const HEADS = ['process', 'events', 'predicate', 'part', 'variables'];
 // The state in the cut. The processes that the predicate names come first.
