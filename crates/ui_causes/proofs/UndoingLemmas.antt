@@ -44,21 +44,24 @@ module _ (w : Scene) (event : EventPlace) (is : IsEvent w event) (left : List �
       MatchBool-at_false (Refuses BadPlace M said M') (RollsBack P event.pid.0 (event.number - 1) M said M') not_beyond
       (MatchBool-at_true (RollsBackAt P event.pid.0 (event.number - 1) M said M') (Refuses UnknownProcess M said M') (there P of) acts) in
       let own : IsRollback P (history_of w.state) event.pid.0 (event.number - 1) back.cut =
-      subst (λ (S : SystemState). IsRollback P (history_of S) event.pid.0 (event.number - 1) back.cut) same back.is in
-      (_, back.reported.reported, ap (λ (N : ModelState). N.system.places) back.left
-      ∙ one_rollback P (history_of w.state) event.pid.0 (event.number - 1) back.cut left own (greatest P of))
+      subst (λ (S : SystemState). IsRollback P (history_of S) event.pid.0 (event.number - 1) back.cut) same back.is in (
+        _,
+        back.reported.reported,
+        ap (λ (N : ModelState). N.system.places) back.left
+            ∙ one_rollback P (history_of w.state) event.pid.0 (event.number - 1) back.cut left own (greatest P of),
+      )
 
   taken : IsAlone w event left → LeavesPlaces w (Undo event.pid.0) left
   taken alone P M M' said of same acts =
       elim (MatchBool-at_true (TakesBack P event.pid.0 M said M' ⊎ KeepsEvent P event.pid.0 M said M') (Refuses UnknownProcess M said M')
       (there P of) acts) [
         | inl takes ↦ (
-            _,
-            takes.reported.reported,
-            ap (λ (N : ModelState). N.system.places) takes.left
-            ∙ ap (λ (S : SystemState). set S.places event.pid.0 (place_at S event.pid.0 - 1)) same
-            ∙ ap (λ (n : ℕ). set w.state.places event.pid.0 (n - 1)) (sym alone.last) ∙ sym alone.alone,
-          )
+          _,
+          takes.reported.reported,
+          ap (λ (N : ModelState). N.system.places) takes.left
+              ∙ ap (λ (S : SystemState). set S.places event.pid.0 (place_at S event.pid.0 - 1)) same
+              ∙ ap (λ (n : ℕ). set w.state.places event.pid.0 (n - 1)) (sym alone.last) ∙ sym alone.alone,
+        )
         | inr keeps ↦ absurd (may_not P w event.pid.0 of (alone.may P of) keeps.refusal
             (subst (λ (S : SystemState). CannotUndo P S event.pid.0 keeps.refusal) same keeps.why))
       ]

@@ -56,5 +56,5 @@ pub(crate) fn put_command_place(
     };
     notes.tab_in(Style::Place, column)?;
     let place = view.text.shown_place(event.pid, made.choice());
-    notes.put(&Part::Bytes(place))
+    notes.add_with("{}", &[Part::Bytes(place)])
 }

@@ -172,8 +172,7 @@ impl Steps<'_> {
         let scope = self.view.scope(step.event.pid);
         let name = scope.process(target);
         if step.what != What::Message {
-            notes.add("sent to ")?;
-            return notes.put(&name);
+            return notes.add_with("sent to {}", &[name]);
         }
         notes.add_with("{} > {}: ", &[Part::Number(step.value), name])?;
         scope.put_expression(notes, expr)?;
