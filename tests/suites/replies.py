@@ -1,10 +1,14 @@
 """The replies to the examples: what `run` and `test` make of each session, and the calls that crews make.
 
-tests/replies/NAME.out has the replies to examples/NAME.rdbg, one for each command line.
+tests/replies/NAME.out has the replies to examples/NAME.rdbg, one for each command line. What `how` and `from` say at the end of each example,
+and of 40 random sessions (400 with --all), is compared with a model (harness/causes.py).
 """
 from harness import TESTS, TOP, sessions, temporary_folder
+from harness.causes import problem_of_causes
+from harness.random_sessions import random_session
 
 REPLIES = TESTS / "replies"
+CAUSES, ALL_CAUSES = 40, 400  # random sessions of which causes are asked
 # The examples that a crew runs, and how many processes each has. A process makes a call in each turn.
 CREWS, TURNS = {"transfers": 3, "snapshot": 9}, 1000
 
@@ -29,6 +33,14 @@ def check_example(suite, example, room):
     suite.same(f"rdbg test, for {example.stem}", ran.output + b"status %d\n" % ran.status, report.encode())
 
 
+def check_causes(suite):
+    """Tests what examples and random sessions say of causes."""
+    for example in sessions("examples"):
+        suite.case(f"causes of {example.stem}", problem_of_causes(suite, example.read_text(encoding="utf-8"), 0))
+    for number in range(ALL_CAUSES if suite.options.all else CAUSES):
+        suite.case(f"causes of random session {number}", problem_of_causes(suite, random_session(number), number))
+
+
 def run(suite):
     with temporary_folder() as room:
         for example in sessions("examples"):
@@ -37,3 +49,4 @@ def run(suite):
     for name, processes in CREWS.items():
         ran = suite.rdbg("crew", "--turns", TURNS, given=(TOP / "examples" / f"{name}.rdbg").read_bytes(), merge=True)
         suite.same(f"a crew of {name}", ran.output, f"calls {processes * TURNS}\njournal ok\n".encode())
+    check_causes(suite)

@@ -69,7 +69,7 @@ fn talk_open<R: Source + Typed, W: Sink>(
 
 /// An interactive session. Reads a program text up to a line `%%`, which may be in the model notation. Then answers each line after it up to
 /// `quit`: it is made plain, and played as `play` of `shell_serve` does. A command line has the reply that a run gives to it, in a model with
-/// the author's names and labels; without a seat it is one of seat 1. Directives (`help`, `on`, `state`, `line P`, `draw`, `quit`, comments)
+/// the author's names and labels; without a seat it is one of seat 1. Directives (`help`, `on`, `how P N`, `draw`, `quit`, comments and others)
 /// make no call. A line that was not typed is written before its reply. Lines after the reply, which begin with two blanks, explain what the
 /// command did, or why the line is refused and what the person can do. A text that is not a program is refused, with an explanation. Pictures
 /// are so many characters wide.
