@@ -6,9 +6,8 @@ use crate::neighbours::EventView;
 use crate::origin::{Origin, find_origin};
 use crate::past::EventPlace;
 use crate::rows::Rows;
-use dbg_base::limits::OPEN_PARENTHESES;
 use dbg_base::{Direction, Expr, Name, Operator, Pid, Refusal};
-use std::alloc::{AllocError, Global};
+use std::alloc::AllocError;
 use ui_text::{Notes, Part};
 use ui_view::{EventNews, NamedValue, SourceView, count_form, names};
 
@@ -24,20 +23,16 @@ pub struct CausalSession<'a> {
     pub view: SourceView<'a>,
 }
 
-// The parts of a conjunction, from the left.
-fn conjuncts<'e>(alloc: Global, expr: &'e Expr) -> Result<Vec<&'e Expr>, AllocError> {
-    let mut parts = Vec::new(alloc);
-    let mut rest = vec![in alloc; expr; 1]?;
-    while let Some(part) = rest.pop() {
-        match part {
-            Expr::Binary(Operator::And, left, right) => {
-                rest.push(right)?;
-                rest.push(left)?;
-            }
-            _ => parts.push(part)?,
+// Appends the parts of a conjunction, from the left.
+#[cycle(parts)]
+fn put_conjuncts<'e>(parts: &mut Vec<&'e Expr>, expr: &'e Expr) -> Result<(), AllocError> {
+    match expr {
+        Expr::Binary(Operator::And, left, right) => {
+            put_conjuncts(parts, left)?;
+            put_conjuncts(parts, right)
         }
+        _ => Ok(parts.push(expr)?),
     }
-    Ok(parts)
 }
 
 /// Appends the name of a value to the last line.
@@ -116,7 +111,9 @@ impl EventView<'_> {
     // Says why the guard of the event's command was true.
     fn tell_guard(&self, notes: &mut Notes, guard: &Expr) -> Result<(), AllocError> {
         let mut label = "  its guard";
-        for part in &conjuncts(notes.alloc(), guard)? {
+        let mut parts = Vec::new(notes.alloc());
+        put_conjuncts(&mut parts, guard)?;
+        for part in &parts {
             self.rows.begin(notes, label, &[])?;
             label = "";
             self.tell_part(notes, *part)?;
