@@ -1,5 +1,6 @@
 //! Events in words.
 
+use crate::messages::Hop;
 use crate::past::EventPlace;
 use dbg_base::Pid;
 use shell_io::Style;
@@ -14,6 +15,12 @@ fn number_word(is_model: bool, is_one: bool) -> &'static str {
         (true, true) => " event ",
         (true, false) => " events ",
     }
+}
+
+/// A message, as it is shown.
+pub(crate) fn shown_message<'a>(view: SourceView<'a>, hop: Hop) -> Part<'a> {
+    view.scope(hop.receiver.pid)
+        .message_from(hop.sender.pid, hop.value)
 }
 
 /// Appends an event to the last line: its process and number.

@@ -1,6 +1,6 @@
 //! What led to an event.
 
-use crate::event_words::{put_command_place, put_place};
+use crate::event_words::{put_command_place, put_place, shown_message};
 use crate::messages::received;
 use crate::neighbours::EventView;
 use crate::origin::{Origin, find_origin};
@@ -65,6 +65,19 @@ pub(crate) fn named_value(view: SourceView<'_>, pid: Pid, number: u32) -> NamedV
     }
 }
 
+/// A value, as it is shown.
+pub(crate) fn shown_value<'a>(
+    view: SourceView<'a>,
+    pid: Pid,
+    named: NamedValue,
+    value: i64,
+) -> Part<'a> {
+    match named {
+        NamedValue::Variable(variable) => view.scope(pid).value(variable, value),
+        NamedValue::Count(_, _) => Part::Number(value),
+    }
+}
+
 /// How many such values there are.
 pub(crate) fn named_values(view: SourceView<'_>, pid: Pid) -> u32 {
     let processes = view.session.program.processes();
@@ -81,12 +94,14 @@ impl EventView<'_> {
         notes.say("")?;
         notes.tab(self.rows.column.saturating_add(INDENT))?;
         put_named(notes, self.view, pid, named)?;
-        notes.add_with(" = {}", &[Part::Number(found.value())])?;
+        let value = shown_value(self.view, pid, named, found.value());
+        notes.add_with(" = {}", &[value])?;
         let Origin::Event(number, written) = found else {
             return notes.add(" from the start");
         };
         if written.old != written.new && matches!(named, NamedValue::Variable(_)) {
-            notes.add_with(" (was {})", &[Part::Number(written.old)])?;
+            let old = shown_value(self.view, pid, named, written.old);
+            notes.add_with(" (was {})", &[old])?;
         }
         notes.add(" since ")?;
         let since = EventPlace { pid, number };
@@ -127,7 +142,7 @@ impl EventView<'_> {
             return Ok(());
         };
         self.rows.begin(notes, "  its message", &[])?;
-        notes.add_with("{} sent by ", &[Part::Number(hop.value)])?;
+        notes.add_with("{} sent by ", &[shown_message(self.view, hop)])?;
         put_place(notes, self.view, hop.sender)?;
         let column = self.rows.column.saturating_add(REASON);
         put_command_place(notes, self.view, hop.sender, column)

@@ -1,7 +1,7 @@
 //! Sentences about the events before and after an event.
 
 use crate::chains::Chains;
-use crate::event_words::{put_place, put_range};
+use crate::event_words::{put_place, put_range, shown_message};
 use crate::messages::Hop;
 use crate::past::{EventPlace, causal_past, first_after};
 use crate::rows::{Rows, new_words};
@@ -118,7 +118,7 @@ impl<'a> EventView<'a> {
     // Appends a message of a chain: its value, its recipient, and up to which event that is followed.
     fn put_hop(&self, notes: &mut Notes, hop: Hop, until: u32) -> Result<(), AllocError> {
         let mut words = new_words(notes)?;
-        words.add_with("-{}-> ", &[Part::Number(hop.value)])?;
+        words.add_with("-{}-> ", &[shown_message(self.view, hop)])?;
         put_place(&mut words, self.view, hop.receiver)?;
         if until > hop.receiver.number {
             words.add_with(" .. {}", &[Part::Natural(until)])?;

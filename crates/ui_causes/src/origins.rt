@@ -1,7 +1,7 @@
 //! Where a value came from, step by step.
 
-use crate::event_words::{put_command_place, put_place};
-use crate::how::{CausalSession, named_value, named_values, put_named};
+use crate::event_words::{put_command_place, put_place, shown_message};
+use crate::how::{CausalSession, named_value, named_values, put_named, shown_value};
 use crate::messages::received;
 use crate::origin::{Origin, find_origin};
 use crate::past::{EventPlace, height};
@@ -23,11 +23,11 @@ const MODEL_NUMBER: usize = 11;
 
 const DEED: usize = 28;
 
-// A value that was set, or sent.
+// A value that was set, or sent to a process.
 #[derive(Clone, Copy, PartialEq, Eq)]
 enum What {
     Named(NamedValue),
-    Message,
+    Message(Pid),
 }
 
 // A step: an event that set a value, or sent it. The start of a process has the number 0.
@@ -157,7 +157,7 @@ impl Steps<'_> {
     ) -> Result<(), AllocError> {
         let scope = self.view.scope(event.pid);
         notes.add_with("{} := ", &[scope.variable(variable)])?;
-        scope.put_expression(notes, expr)?;
+        scope.put_shortened(notes, expr)?;
         self.note_expression(event, expr, received)
     }
 
@@ -171,11 +171,12 @@ impl Steps<'_> {
     ) -> Result<(), AllocError> {
         let scope = self.view.scope(step.event.pid);
         let name = scope.process(target);
-        if step.what != What::Message {
+        let What::Message(_) = step.what else {
             return notes.add_with("sent to {}", &[name]);
-        }
-        notes.add_with("{} > {}: ", &[Part::Number(step.value), name])?;
-        scope.put_expression(notes, expr)?;
+        };
+        let message = scope.message_to(target, step.value);
+        notes.add_with("{} > {}: ", &[message, name])?;
+        scope.put_shortened(notes, expr)?;
         self.note_expression(step.event, expr, None)
     }
 
@@ -184,12 +185,12 @@ impl Steps<'_> {
         let Some(hop) = received(self.view.session.world, step.event) else {
             return Ok(());
         };
-        notes.add_with("{} < ", &[Part::Number(hop.value)])?;
+        notes.add_with("{} < ", &[shown_message(self.view, hop)])?;
         put_place(notes, self.view, hop.sender)?;
         if variable_of(step).is_none() {
             return Ok(());
         }
-        self.note(hop.sender, What::Message, hop.value)
+        self.note(hop.sender, What::Message(hop.receiver.pid), hop.value)
     }
 
     // Says what an event did, and notes from which values that comes.
@@ -217,11 +218,15 @@ impl Steps<'_> {
         let EventPlace { pid, number } = step.event;
         let session = self.view.session;
         notes.say("")?;
-        if let What::Named(named) = step.what {
-            put_named(notes, self.view, pid, named)?;
-            notes.add(" = ")?;
-        }
-        notes.add_with("{}", &[Part::Number(step.value)])?;
+        let value = match step.what {
+            What::Named(named) => {
+                put_named(notes, self.view, pid, named)?;
+                notes.add(" = ")?;
+                shown_value(self.view, pid, named, step.value)
+            }
+            What::Message(target) => self.view.scope(pid).message_to(target, step.value),
+        };
+        notes.add_with("{}", &[value])?;
         notes.tab(VALUE)?;
         let text = self.view.text;
         let number_room = if text.is_model() {

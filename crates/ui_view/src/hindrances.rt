@@ -70,8 +70,8 @@ fn is_range_check(expr: &Expr) -> bool {
 }
 
 impl ProcessView<'_> {
-    // Appends an expression to the last line. Of a long one it is the beginning.
-    fn put_shortened(&self, notes: &mut Notes, expr: &Expr) -> Result<(), AllocError> {
+    /// Appends an expression to the last line. Of a long one it is the beginning.
+    pub fn put_shortened(&self, notes: &mut Notes, expr: &Expr) -> Result<(), AllocError> {
         let mut text = Notes::new(notes.alloc());
         text.say("")?;
         self.put_expression(&mut text, expr)?;
