@@ -4,8 +4,8 @@ import re
 COMMENT = re.compile(r"#.*")
 DECLARED = re.compile(r"\bconst\s+(\w+)\s*=\s*([^;]*);|\benum\s+(\w+)\s*\{([^}]*)\}|\bmessage\s+(\w+)\s*\{([^}]*)\}")
 CALL = re.compile(r"(\w+)\(([^()]*)\)")
-# What an event set, in words.
-SET = re.compile(r"(?<= )(\w+)(?= -> )|(?<= -> )(\w+)|(?<= stays )(\w+)")
+# A value that an event set, or with which a variable is compared.
+VALUE = re.compile(r"\w+(?= -> )|(?<=[=<>] )\w+|(?<= stays )\w+")
 # An arrow of a sequence diagram, and its message.
 ARROW = re.compile(r"^(  p\d+-\S*p\d+: )(\w+)", re.MULTILINE)
 
@@ -69,5 +69,5 @@ class ValueWords:
 
     def plain_picture(self, text):
         """The lines of a sequence diagram with numbers for the values of variables and messages."""
-        text = SET.sub(lambda word: self.number(word.group()), CALL.sub(self.packed, text))
+        text = VALUE.sub(lambda word: self.number(word.group()), CALL.sub(self.packed, text))
         return ARROW.sub(lambda arrow: arrow[1] + self.number(arrow[2]), text)
