@@ -1,5 +1,5 @@
--- The events before an event and after it, by happened-before (Lamport 1978). The number of an event is counted from 1 here, and from 0 in the
--- definitions of the reference.
+-- The events before an event and after it, by happened-before (Lamport 1978). Events have numbers from 1 here, and from 0 in the definitions of
+-- the reference.
 use Rattle.std.specs.Prelude.{◌≡◌, ◌↔◌, ℕ, ◌-◌, ◌<◌, ◌≤◌, List, length, slice_index}
 use Rattle.dbg_base.specs.Trees.{Program}
 use Rattle.dbg_base.specs.Orders.{Event, choices_of}

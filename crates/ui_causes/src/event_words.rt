@@ -8,7 +8,7 @@ use std::alloc::AllocError;
 use ui_text::{Notes, Part};
 use ui_view::SourceView;
 
-// The word before the number of an event, and before those of several ones. In a model, a reply names a command without a label by its number.
+// The word before the number of an event, and before those of several ones. In a model, a reply may name a command by its number.
 fn number_word(is_model: bool, is_one: bool) -> &'static str {
     match (is_model, is_one) {
         (false, _) => " ",
