@@ -41,9 +41,8 @@ pub(crate) fn put_range(
     to: u32,
 ) -> Result<(), AllocError> {
     let scope = view.scope(pid);
-    notes.put(&scope.name())?;
-    notes.put(&Part::Text(number_word(view.text.is_model(), from == to)))?;
-    notes.put(&Part::Natural(from))?;
+    let word = Part::Text(number_word(view.text.is_model(), from == to));
+    notes.add_with("{}{}{}", &[scope.name(), word, Part::Natural(from)])?;
     if from < to {
         notes.add_with("-{}", &[Part::Natural(to)])?;
     }
