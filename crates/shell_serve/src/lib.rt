@@ -21,7 +21,7 @@ pub use framing::{Input, Next, Span};
 pub use observer::{LineReply, LineSort, Observer};
 pub use program_text::{TextEnd, is_end_line, read_program_text, text_alone};
 pub use reply_form::{PlainReplies, ReplyForm};
-pub use running::{boxed_command, play};
+pub use running::play;
 pub use serving::serve;
 pub use session::answer;
 pub use source::{Answer, LineSource};

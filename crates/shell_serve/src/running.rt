@@ -30,28 +30,6 @@ use std::alloc::Global;
 use std::marker::Brand;
 use std::mem;
 
-/// The command of a plan. Error: memory ran out.
-pub fn boxed_command(alloc: Global, given: Givable) -> Result<Box<dyn Command>, Refusal>
-    ensures makes { IfOk result (λ command. IsFresh command × (order command ≡ order_of given.plan)) }
-    ensures refuses { IfErr result (λ refusal. refusal ≡ refusals.Memory) }
-{
-    let Givable { plan } = given;
-    let command: Box<dyn Command> = match plan {
-        Plan::Step(pid, choice) => Box::new(alloc, StepCmd::new(pid, choice))?,
-        Plan::Next(pid) => Box::new(alloc, NextCmd::new(pid))?,
-        Plan::Undo(pid) => Box::new(alloc, UndoCmd::new(pid))?,
-        Plan::Redo(pid) => Box::new(alloc, RedoCmd::new(pid))?,
-        Plan::Rollback(pid, place) => Box::new(alloc, RollbackCmd::new(pid, place))?,
-        Plan::Goto(name) => Box::new(alloc, GotoCmd::new(name))?,
-        Plan::Break(name, conjuncts) => Box::new(alloc, BreakCmd::new(name, conjuncts))?,
-        Plan::Clear(name) => Box::new(alloc, ClearCmd::new(name))?,
-        Plan::Arm(name) => Box::new(alloc, ArmCmd::new(name))?,
-        Plan::Pass(name) => Box::new(alloc, PassCmd::new(name))?,
-        Plan::Batch(plans) => Box::new(alloc, BatchCmd::new(plans))?,
-    };
-    Ok(command)
-}
-
 // Answers the lines of a session in which no call was made yet.
 fn answer_lines<
     L: Run,
@@ -226,7 +204,23 @@ pub fn play<T: Observer<N>, F: ReplyForm, S: LineSource<R, N>, N, R: Source, W: 
     let make = |given: Givable| -> Result<Box<dyn Command>, Refusal>
         ensures makes { IfOk result (λ command. IsFresh command × (order command ≡ order_of given.plan)) }
         ensures refuses { IfErr result (λ refusal. refusal ≡ refusals.Memory) }
-    { boxed_command(alloc, given) };
+    {
+        let Givable { plan } = given;
+        let command: Box<dyn Command> = match plan {
+            Plan::Step(pid, choice) => Box::new(alloc, StepCmd::new(pid, choice))?,
+            Plan::Next(pid) => Box::new(alloc, NextCmd::new(pid))?,
+            Plan::Undo(pid) => Box::new(alloc, UndoCmd::new(pid))?,
+            Plan::Redo(pid) => Box::new(alloc, RedoCmd::new(pid))?,
+            Plan::Rollback(pid, place) => Box::new(alloc, RollbackCmd::new(pid, place))?,
+            Plan::Goto(name) => Box::new(alloc, GotoCmd::new(name))?,
+            Plan::Break(name, conjuncts) => Box::new(alloc, BreakCmd::new(name, conjuncts))?,
+            Plan::Clear(name) => Box::new(alloc, ClearCmd::new(name))?,
+            Plan::Arm(name) => Box::new(alloc, ArmCmd::new(name))?,
+            Plan::Pass(name) => Box::new(alloc, PassCmd::new(name))?,
+            Plan::Batch(plans) => Box::new(alloc, BatchCmd::new(plans))?,
+        };
+        Ok(command)
+    };
     run_program::<Box<dyn Command>, _, _, _, _, _, _, _>(
         alloc, &make, observer, form, program, source, reader, writer,
     )

@@ -1,7 +1,7 @@
 use Rattle.std.proofs.Math.Logic.{∥∥₁_elim}
 use Rattle.dbg_command.specs.Tables.{IsGivable}
 use Rattle.dbg_command.proofs.BatchLemmas.{commands_prop}
-use Rattle.shell_serve.proofs.running.boxed_command.Goals as goal
+use Rattle.shell_serve.proofs.running.fn.play.make.Goals as goal
 
 pub new-requires-in-Batch : goal.new-requires-in-Batch
 new-requires-in-Batch g c =

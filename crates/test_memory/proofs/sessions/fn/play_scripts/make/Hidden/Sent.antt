@@ -1,8 +1,8 @@
--- Commands may be sent to another thread, with all that they keep.
+-- Commands that keep much may be moved to another thread, too.
 use denote.Param.Send.{sendable}
 use denote.Param.Sent.{Sends}
 use Rattle.dbg_command.proofs.SendableCommandLemmas.{undo_send, rollback_send, goto_send, clear_send, batch_send}
-use Rattle.shell_serve.proofs.running.boxed_command.Hides.{part-1-3, part-1-5, part-1-6, part-1-8, part-1-11}
+use Rattle.test_memory.proofs.sessions.fn.play_scripts.make.Hides.{part-1-3, part-1-5, part-1-6, part-1-8, part-1-11}
 
 pub sends-part-1-3 : Sends part-1-3
 sends-part-1-3 = search (undo_send, sendable)
