@@ -60,19 +60,18 @@ impl<'a> EventView<'a> {
     // Says how many events of each process happened before the event.
     fn tell_before(&self, notes: &mut Notes, past: &Cut) -> Result<(), AllocError> {
         let (mut sum, mut all) = (0u32, 0u32);
-        let mut mark = "";
         self.rows.begin(notes, "comes after", &[])?;
         for p in 0..self.view.session.program.processes() {
             let count = self.earlier(past, Pid(p));
-            sum = sum.saturating_add(count);
             all = all.saturating_add(self.view.session.world.place(Pid(p)));
             if count > 0 {
                 let mut words = new_words(notes)?;
                 let name = self.view.scope(Pid(p)).name();
                 words.add_with("{} of {}", &[Part::Natural(count), name])?;
+                let mark = if sum == 0 { "" } else { "," };
                 self.rows.put(notes, mark, &words)?;
-                mark = ",";
             }
+            sum = sum.saturating_add(count);
         }
         let others = Part::Natural(all.saturating_sub(1));
         let mut words = new_words(notes)?;
