@@ -97,15 +97,16 @@ impl<'a> TextScene<'a> {
         words(self.alloc, if room < 3 { "" } else { " .." }, &[])
     }
 
-    // A message to or from a process, in so much room: the name of the process is cut before the value is.
+    // The value of a message, and to or from which process it was, in so much room: the name of the process is cut before the value is.
     fn message(
         &self,
-        value: Part<'_>,
+        value: Notes,
         sign: &'static str,
         partner: Pid,
         room: usize,
     ) -> Result<Notes, AllocError> {
-        let mut line = words(self.alloc, " {}{}", &[value, Part::Text(sign)])?;
+        let mut line = value;
+        line.add(sign)?;
         let name = words(self.alloc, "{}", &[self.scope(partner).name()])?;
         let used = bytes_of(&line).len();
         put_shortened(&mut line, bytes_of(&name), room.saturating_sub(used))?;
@@ -117,11 +118,13 @@ impl<'a> TextScene<'a> {
         let scope = self.scope(shown.pid);
         if let Some(sent) = self.timeline.sent_by(self.view.session.world, shown) {
             let value = scope.message_to(sent.target, sent.value);
+            let value = words(self.alloc, " {}", &[value])?;
             return self.message(value, ">", sent.target, room);
         }
         match self.timeline.received_by(self.view.session.world, shown) {
             Some(received) if !self.selection.contains(received.source) => {
                 let value = scope.message_from(received.source, received.value);
+                let value = words(self.alloc, " {}", &[value])?;
                 self.message(value, "<", received.source, room)
             }
             _ => words(self.alloc, "", &[]),
