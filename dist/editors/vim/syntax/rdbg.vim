@@ -18,7 +18,7 @@ syntax match rdbgField "[])a-z0-9_]\@<=\.\ze[a-z]"
 
 " The model notation. Its words are not reserved: each is one only in its place.
 syntax match rdbgNotation "\<\%(const\|let\|enum\|message\)\>\ze\s\+[a-z]"
-syntax match rdbgNotation "\<else\>\ze\s*:"
+syntax match rdbgNotation "\<\%(else\)\>\ze\s*:"
 syntax match rdbgNotation "\<\%(for\)\>\ze\s\+[a-z][a-z0-9_]*\s*:"
 syntax match rdbgNotation "\%([])a-z0-9_]\s\+\)\@<=\<\%(where\)\>\ze\s\+[-(a-z0-9]"
 syntax match rdbgNotationForm "\<\%(all\|some\|sum\|at_least\)\>\ze\s*("
@@ -34,7 +34,7 @@ syntax match rdbgHalted "\<halted \S\+\s*$" contained
 syntax match rdbgSeat "^\s*\d\+\ze\s" contained
 syntax match rdbgCommand "\%(\%(^\s*\|\s:\s\+\)\%(\d\+\s\+\)\?\|;\s\+\|\<batch\s\+\)\@<=\%(step\|next\|undo\|redo\|rollback\|break\|goto\|clear\|pass\|arm\|batch\|back\)\>" contained
 syntax match rdbgQuestion "\%(\%(^\s*\|\s:\s\+\)\%(\d\+\s\+\)\?\)\@<=\%(vars\|chan\|clock\|place\|can\|cut\|why\|breaks\)\>" contained
-syntax match rdbgOwnWord "\%(^\s*\)\@<=\%(help\|on\|list\|state\|line\|draw\|session\|quit\|exit\|q\)\>" contained
+syntax match rdbgOwnWord "\%(^\s*\)\@<=\%(help\|on\|list\|state\|how\|from\|line\|draw\|session\|quit\|exit\|q\)\>" contained
 syntax match rdbgBetween "\s\zs;\ze\s" contained
 syntax region rdbgPredicate start="(" end=")" oneline contained contains=rdbgPredicate,rdbgTruth,rdbgOperatorWord,rdbgCount,rdbgNumber,rdbgOperator,rdbgNotation,rdbgNotationForm,rdbgRange,rdbgField
 
