@@ -58,11 +58,10 @@ class Terminal(Conversation):
 
     def processes(self):
         """The processes that run at the terminal, and what each was started with."""
-        for file in Path("/proc").glob("[0-9]*/cmdline"):
-            process = int(file.parent.name)
+        for process in [int(name) for name in os.listdir("/proc") if name.isdigit()]:
             try:
                 if os.getsid(process) == self.started.pid:
-                    yield process, file.read_bytes().decode().split("\0")
+                    yield process, Path(f"/proc/{process}/cmdline").read_bytes().decode().split("\0")
             except OSError:
                 pass  # (it has ended)
 
