@@ -4,6 +4,7 @@ The suite runs the proved program once for each allocation that it fails: 100 sp
 """
 import itertools
 import os
+import re
 import shutil
 import subprocess
 from pathlib import Path
@@ -41,6 +42,11 @@ def compile_allocator(room):
     return library
 
 
+def plain(output):
+    """The output with plain names, and the number of the command `go`: a reply of a model has these if memory runs out for its own names."""
+    return re.sub(rb"^(ok p_\d) go\b", rb"\1 0", output.replace(b"[", b"_").replace(b"]", b""), flags=re.MULTILINE)
+
+
 def run_failing(program, library, place):
     """Runs the program, whose allocation at this place fails (none at the place 0). Returns what is wrong, and how many were reported."""
     with open(library.with_name("report"), "w+b") as report:
@@ -51,7 +57,7 @@ def run_failing(program, library, place):
         except subprocess.TimeoutExpired:
             return f"it did not end in {SECONDS} seconds", 0
         reported = os.fstat(report.fileno()).st_size
-    problem = difference(ran.stdout, (CRATE / "stdout").read_bytes())
+    problem = difference(plain(ran.stdout), plain((CRATE / "stdout").read_bytes()))
     if problem or ran.returncode != 0:
         problem = f"status {ran.returncode}\n{problem}\n{ran.stderr.decode(errors='backslashreplace')}"
     return problem, reported
