@@ -11,13 +11,13 @@ use std::alloc::AllocError;
 use ui_text::{Notes, Part};
 use ui_view::{EventNews, NamedValue, SourceView, count_form, names};
 
-// The room of what is said of a part of a guard, before the place of the command that made it so.
+// How many columns a value of a guard and its reason have, before the place of the command that set it.
 const REASON: usize = 40;
 
-// How far what is said of a part of a guard is behind the part.
+// How many columns after a part of a guard its values begin.
 const INDENT: usize = 2;
 
-/// A session of which it is said why something is so.
+/// A session whose causes are shown.
 #[derive(Clone, Copy)]
 pub struct CausalSession<'a> {
     pub view: SourceView<'a>,

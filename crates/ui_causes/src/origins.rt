@@ -37,7 +37,7 @@ struct Step {
     what: What,
     value: i64,
     height: u32,
-    is_told: bool,
+    is_shown: bool,
 }
 
 // The steps that are known, and the values from which they come.
@@ -67,7 +67,7 @@ impl<'a> Steps<'a> {
             what,
             value,
             height,
-            is_told: false,
+            is_shown: false,
         })?;
         Ok(())
     }
@@ -102,7 +102,7 @@ impl<'a> Steps<'a> {
         Ok(())
     }
 
-    // The step that is told next: one of the events with the most events before them.
+    // The step to show next: of those that are not shown yet, one whose event has the most events before it.
     fn next(&self) -> Option<usize> {
         let mut best: Option<usize> = None;
         for (at, step) in self.steps.iter().enumerate() {
@@ -110,7 +110,7 @@ impl<'a> Steps<'a> {
                 Some(other) => step.height > other.height,
                 None => true,
             };
-            if !step.is_told && is_higher {
+            if !step.is_shown && is_higher {
                 best = Some(at);
             }
         }
@@ -262,7 +262,7 @@ impl Steps<'_> {
             let Some(step) = self.steps.get_mut(at) else {
                 return Ok(());
             };
-            step.is_told = true;
+            step.is_shown = true;
             let step = *step;
             self.tell_step(notes, step)?;
         }
