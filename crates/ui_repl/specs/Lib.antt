@@ -1,2 +1,3 @@
 pub mod LineSources
 pub mod Talks
+pub mod Expected

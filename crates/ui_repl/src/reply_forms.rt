@@ -1,7 +1,8 @@
 //! The forms in which a reply may be expected.
 
-ghost use Rattle.std.specs.Prelude.{◌≡◌, ◌||◌};
+ghost use Rattle.std.specs.Prelude.{◌≡◌, ◌||◌, IfOk};
 ghost use Rattle.std.specs.Str.{bytes_eq};
+ghost use Rattle.ui_repl.specs.Expected.{IsComparable};
 
 use crate::written_program::WrittenProgram;
 use std::alloc::{AllocError, Global};
@@ -27,7 +28,9 @@ impl ReplyForms {
 
 impl WrittenProgram {
     /// A reply to a line of a session of this program: in a model, with plain names. Error: memory ran out.
-    pub fn comparable(&self, alloc: Global, reply: &[u8]) -> Result<Vec<u8>, AllocError> {
+    pub fn comparable(&self, alloc: Global, reply: &[u8]) -> Result<Vec<u8>, AllocError>
+        ensures { IfOk result (λ made. IsComparable reply.now made.items) }
+    {
         if self.text().is_model() {
             plain_text(alloc, reply)
         } else {
@@ -36,11 +39,9 @@ impl WrittenProgram {
     }
 
     /// The forms of a reply. Error: memory ran out.
-    pub fn forms_of(
-        &self,
-        alloc: Global,
-        replies: ReplyLines<'_>,
-    ) -> Result<ReplyForms, AllocError> {
+    pub fn forms_of(&self, alloc: Global, replies: ReplyLines<'_>) -> Result<ReplyForms, AllocError>
+        ensures { IfOk result (λ forms. IsComparable replies.entry.shown.now forms.shown.items × (forms.plain.items ≡ replies.entry.plain.now)) }
+    {
         Ok(ReplyForms {
             shown: self.comparable(alloc, replies.shown)?,
             plain: Vec::from_slice(alloc, replies.plain)?,
