@@ -1,8 +1,12 @@
 """Claims of explanations about commands: which can fire, and what prevents the others; and about the values of a process."""
 import re
+from itertools import groupby
 
 from harness.claims import check, claim, same
-from harness.language import conjuncts, faults, holds, names, parts, value_of_name, written
+from harness.claims_refusals import state_in_batch
+from harness.counts import counted_parts
+from harness.language import faults, holds, names, parts, value_of_name, written
+from harness.lines import commands_of
 
 HALTED = "the breakpoint (?P<name>\\w+) halts the session"
 
@@ -12,9 +16,20 @@ def read_values(text):
     return {name: int(value) for name, value in (pair.split(" = ") for pair in text.split(", ") if pair)}
 
 
-def check_values(shown, expression, state):
-    """Checks the values of the names in an expression."""
-    same("the values", read_values(shown or ""), {name: value_of_name(name, state) for name in names(expression)})
+def check_values(shown, expressions, state):
+    """Checks the values of the names in some expressions."""
+    same("the values", read_values(shown or ""), {name: value_of_name(name, state) for found in expressions for name in names(found)})
+
+
+def is_true_part(part, state):
+    """Whether so many members of a part hold as have to."""
+    least, members = part
+    return sum(holds(member, state) for member in members) >= least
+
+
+def count_of(least, members, state):
+    """How many members hold, in words."""
+    return f"{sum(holds(member, state) for member in members)} of {len(members)} hold, {least} {'is' if least == 1 else 'are'} needed"
 
 
 def faulting_part(expression, state):
@@ -31,7 +46,7 @@ def check_fault(text, expression, state):
     check(f"{written(expression)} faults", found and faults(expression, state))
     part = faulting_part(expression, state)
     same("what faults", (found["whole"], found["part"]), (written(expression), None if part is expression else written(part)))
-    check_values(found["values"], expression, state)
+    check_values(found["values"], [expression], state)
 
 
 def check_false(text, expression, state):
@@ -39,10 +54,13 @@ def check_false(text, expression, state):
     check(f"{written(expression)} does not hold", not holds(expression, state))
     if faults(expression, state):
         return check_fault(text, expression, state)
-    found = re.fullmatch(r"(?P<part>.*) is false(?:: (?P<values>.*))?", text)
-    part = next(part for part in conjuncts(expression) if not holds(part, state))
-    same("what is false", found and found["part"], written(part))
-    return check_values(found["values"], part, state)
+    found = re.fullmatch(r"(?:(?P<count>\d+ of .*); )?(?P<false>.*) (?P<word>is|are) false(?:: (?P<values>.*))?", text)
+    least, members = next(part for part in counted_parts(expression, state) if not is_true_part(part, state))
+    failing = [member for member in members if not holds(member, state)]
+    same("what is false", found and found["false"], ", ".join(map(written, failing)))
+    same("its word", found["word"], "is" if len(failing) == 1 else "are")
+    same("how many hold", found["count"], count_of(least, members, state) if len(members) > 1 else None)
+    return check_values(found["values"], failing, state)
 
 
 def check_verdict(text, hindrance):
@@ -69,7 +87,7 @@ def command(reading, process, number, line, text):
     reading.record("commands", reading.command)
 
 
-@claim(r"  (?P<verdict>it can fire|no message from \w+ is on its way|.* (?:is false|faults).*)")
+@claim(r"  (?P<verdict>it can fire|no message from \w+ is on its way|.* (?:(?:is|are) false|faults).*)")
 def verdict_of_list(reading, verdict):
     """What prevents the command that `list` shows in the line before, or that it can fire."""
     check("a command is in the line before", reading.command)
@@ -78,13 +96,66 @@ def verdict_of_list(reading, verdict):
     reading.command = None
 
 
-@claim(r"command (?P<number>\d+) in line (?P<line>\d+): (?P<verdict>.*)")
+PARTS = r"a part of its guard is false|\d+ of \d+ hold, \d+ (?:is|are) needed"
+
+
+def refused_now(reading):
+    """The command that is refused, of a batch the one of it, and the processes in the state in which it is."""
+    if reading.refusal != "25":
+        return reading.refused, reading.world
+    at = int(reading.reply.split()[2])
+    return commands_of(reading.words)[at - 1], reading.world if at == 1 else state_in_batch(reading).world
+
+
+@claim(rf"command (?P<number>\d+) in line (?P<line>\d+): (?P<verdict>(?!(?:{PARTS})$).*)")
 def verdict_of_refusal(reading, number, line, verdict):
     """What prevents a command that is refused."""
-    process, number = reading.refused[1], int(number)
-    same("the line of the command", int(line), reading.world.program[process].commands[number].line)
-    check_verdict(verdict, reading.world.hindrance(process, number))
+    words, world = refused_now(reading)
+    process, number = words[1], int(number)
+    same("the line of the command", int(line), world.program[process].commands[number].line)
+    check_verdict(verdict, world.hindrance(process, number))
     reading.record("verdicts", (process, number))
+
+
+@claim(rf"command (?P<number>\d+) in line (?P<line>\d+): (?P<said>{PARTS})")
+def parts_of_refusal(reading, number, line, said):
+    """A command is refused because of its guard, of which each part has a line after this one. Of the only part, its members have."""
+    words, world = refused_now(reading)
+    process, number = words[1], int(number)
+    same("the line of the command", int(line), world.program[process].commands[number].line)
+    hindrance = world.hindrance(process, number)
+    check("its guard is false", hindrance and hindrance.refusal == 3)
+    reading.record("verdicts", (process, number))
+    lines = list(signed_parts(hindrance.expression, hindrance.state))
+    is_alone = len(counted_parts(hindrance.expression, hindrance.state)) == 1
+    same("what is said", said, lines[0][1] if is_alone else "a part of its guard is false")
+    for sign, text, expressions in lines[is_alone:]:
+        reading.require("parts", (sign, text, *values_of(expressions, hindrance.state)))
+
+
+def values_of(expressions, state):
+    """The values of the names in some expressions, in their order by name."""
+    return sorted({name: value_of_name(name, state) for found in expressions for name in names(found)}.items())
+
+
+def signed_parts(expression, state):
+    """What has to be said of the parts of a guard: for each a sign, the text, and the expressions whose values follow."""
+    for part in counted_parts(expression, state):
+        least, members = part
+        sign = "+" if is_true_part(part, state) else "-"
+        if len(members) == 1:
+            yield sign, written(members[0]) + (" faults" if faults(members[0], state) else ""), members
+            continue
+        yield sign, count_of(least, members, state), []
+        for holding, group in groupby(members, lambda member: holds(member, state)):
+            group = list(group)
+            yield "    +" if holding else "    -", ", ".join(map(written, group)), group
+
+
+@claim(r"(?P<sign>(?:    )?[-+]) (?P<text>[^:]*)(?:: (?P<values>.*))?")
+def part_of_guard(reading, sign, text, values):
+    """A part of the guard of a refused command, or a member of one, and whether it holds."""
+    reading.record("parts", (sign, text, *sorted(read_values(values or "").items())))
 
 
 @claim(r"no command of (?P<process>any process|\w+) can fire")
@@ -136,13 +207,17 @@ def require_refused(reading):
     refusal = reading.refusal
     if refusal == "25":
         at, refusal = reading.reply.split()[2:]
-        if at != "1":
+        commands = commands_of(reading.words)[:int(at)]
+        if int(at) > 1 and any(words[0] not in ("step", "next") for words in commands):
             return
-    word, process = (reading.refused + [""])[:2]
+    if refusal not in ("3", "4", "5", "24"):
+        return
+    words, world = refused_now(reading)
+    word, process = words[:2]
     if refusal == "24":
-        reading.require("verdicts", *((process, n) for n in range(len(reading.world.program[process].commands))))
-    elif refusal in ("3", "4", "5"):
-        reading.require("verdicts", (process, reading.world.redo[process][0] if word == "redo" else int(reading.refused[2])))
+        reading.require("verdicts", *((process, n) for n in range(len(world.program[process].commands))))
+    else:
+        reading.require("verdicts", (process, world.redo[process][0] if word == "redo" else int(words[2])))
 
 
 def require_commands(reading):

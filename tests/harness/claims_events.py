@@ -28,12 +28,11 @@ def read_settings(text):
     return settings
 
 
-@claim(r"(?P<indent>  )?(?P<process>\w+) (?P<number>\d+)  +(?:(?P<message>-?\d+ [<>] \w+(?: \d+)?)(?:  +))?(?P<undone>undone: )?"
+@claim(r"(?P<process>\w+) (?P<number>\d+)  +(?:(?P<message>-?\d+ [<>] \w+(?: \d+)?)(?:  +))?(?P<undone>undone: )?"
        r"(?P<settings>(?:\w+ (?:-?\d+ -> -?\d+|stays -?\d+)(?:, )?)*) *:(?P<line>\d+) command (?P<command>\d+)")
-def event(reading, indent, process, number, message, undone, settings, line, command):
+def event(reading, process, number, message, undone, settings, line, command):
     """A line about an event: its message, the variables that it set, and its command. An undone event is one of the session before."""
     same("the event is shown as undone", bool(undone), reading.words[0] == "undo")
-    same("the event is shown as one of a batch", bool(indent), reading.words[0] == "batch")
     world = reading.before.world if undone else reading.world
     found = world.events[process][int(number) - 1]
     same("the message", message, written_message(world, process, found))

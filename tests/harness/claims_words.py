@@ -89,14 +89,26 @@ def example(reading, name, process, variable):
 
 # Lines that say nothing of the state: the forms of commands, and what is wrong with the words of a line.
 SILENT = [
-    r"`[a-z]+(?: [A-Z](?: [A-Z])*)?(?: \[.*\])?(?: C ; C \.\.)?`: .*",
-    r"break .*", r" *\^ a process and its predicate are missing after the name", r" *\^ a predicate is missing after the last process"]
+    r"`[a-z]+(?: [A-Z](?: [A-Z])*)?(?: \[.*\])?(?: C ; C \.\.)?`: .*"]
 
 
 @claim("|".join(SILENT))
 def form(reading):
     """A form of a command, or a mark under a line."""
     same("the refusal", reading.refusal, "22")
+
+
+@claim(r"(?P<line>break .*)")
+def marked_line(reading, line):
+    """A line with a mark under it in the next line."""
+    reading.record("marked line", line.split())
+
+
+@claim(r" *\^ (?:a process and its predicate are missing after the name|a predicate is missing after the last process)")
+def missing(reading):
+    """A mark where a part of a line is missing."""
+    same("the refusal", reading.refusal, "22")
+    reading.require("marked line", reading.words)
 
 
 @claim(r"(?P<text>\(.*\))")

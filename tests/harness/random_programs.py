@@ -39,16 +39,25 @@ def truth(chance, process):
         [10, 4, 2, 1, 1, 1, 1, 0.2])[0]
 
 
+def of_three(chance, process):
+    """That two of three comparisons hold, or that one does: a form of the notation, written out."""
+    first, second, third = (comparison(chance, process) for _ in range(3))
+    two = f"(({first} and ({second} or {third})) or ({second} and {third}))"
+    return chance.choice([two, f"(({first} or {second}) or {third})"])
+
+
 def guard(chance, process):
     """A guard, which is often true."""
+    if process.has_forms and chance.random() < 0.3:
+        return of_three(chance, process)
     return "true" if chance.random() < 0.5 else truth(chance, process)
 
 
 class RandomProcess:
     """A process of a random program: its name, those of the others, its variables, and the bodies of its commands."""
 
-    def __init__(self, chance, name, names):
-        self.name, self.others = name, [other for other in names if other != name]
+    def __init__(self, chance, name, names, has_forms):
+        self.name, self.others, self.has_forms = name, [other for other in names if other != name], has_forms
         self.variables = chance.sample(VARIABLES, chance.randint(1, 3))
         self.commands = []
 
@@ -68,10 +77,10 @@ class RandomProcess:
         return f"process {self.name} {{{between}{between.join([*variables, *self.commands])}{end}}}\n"
 
 
-def random_program(chance):
-    """The processes of a random program. Most messages can be received."""
+def random_program(chance, has_forms=False):
+    """The processes of a random program. Most messages can be received. Guards may be forms of the notation, written out."""
     names = chance.choice(NAMES)
-    processes = {name: RandomProcess(chance, name, names) for name in names}
+    processes = {name: RandomProcess(chance, name, names, has_forms) for name in names}
     for _ in range(chance.randint(2, 5)):
         source, target = chance.sample(names, 2)
         processes[source].add(chance, f"send {target} {number(chance, processes[source])}")

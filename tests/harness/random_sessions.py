@@ -8,6 +8,7 @@ from harness.session import call
 
 BREAKPOINTS = "kmn"
 END = "%%\n"
+FORMS = 20  # the sessions from this number on have forms of the notation in their guards
 # How many of the lines with this refusal are kept, and how many of the other lines that are refused.
 KEPT, OTHERS_KEPT = {"1": 1, "3": 1, "4": 1, "5": 1, "7": 1, "23": 1, "24": 0.5, "25": 0.3}, 0.1
 
@@ -17,7 +18,7 @@ class RandomSession:
 
     def __init__(self, number):
         self.chance = random.Random(number)
-        self.processes = random_program(self.chance)
+        self.processes = random_program(self.chance, has_forms=number >= FORMS)
         self.program = "".join(process.written(self.chance) for process in self.processes.values())
         self.player = Player(read_program(self.program))
 

@@ -35,7 +35,7 @@ ROLLBACK = re.compile(r"`rollback (\w+) (\d+)` undoes this event and all events 
 COMMAND = re.compile(r"(\w+): command (\d+) in line \d+: .*")
 # What `list` says of a command, and the replies that a batch with it may have.
 VERDICTS = [
-    (r"  it can fire", ACCEPTED), (r"  no message .*", r"no 25 \d+ 5"), (r"  .* is false.*", r"no 25 \d+ 3"), (r"  .*faults.*", r"no 25 \d+ 4")]
+    (r"  it can fire", ACCEPTED), (r"  no message .*", r"no 25 \d+ 5"), (r"  .* (?:is|are) false.*", r"no 25 \d+ 3"), (r"  .*faults.*", r"no 25 \d+ 4")]
 
 
 class Trial(NamedTuple):

@@ -6,8 +6,9 @@ use crate::neighbours::EventView;
 use crate::origin::{Origin, find_origin};
 use crate::past::EventPlace;
 use crate::rows::Rows;
-use dbg_base::{Direction, Expr, Name, Operator, Pid, Refusal};
+use dbg_base::{Direction, Expr, Name, Pid, Refusal};
 use std::alloc::AllocError;
+use ui_conditions::put_conjuncts;
 use ui_text::{Notes, Part};
 use ui_view::{EventNews, NamedValue, SourceView, count_form, names};
 
@@ -21,18 +22,6 @@ const INDENT: usize = 2;
 #[derive(Clone, Copy)]
 pub struct CausalSession<'a> {
     pub view: SourceView<'a>,
-}
-
-// Appends the parts of a conjunction, from the left.
-#[cycle(parts)]
-fn put_conjuncts<'e>(parts: &mut Vec<&'e Expr>, expr: &'e Expr) -> Result<(), AllocError> {
-    match expr {
-        Expr::Binary(Operator::And, left, right) => {
-            put_conjuncts(parts, left)?;
-            put_conjuncts(parts, right)
-        }
-        _ => Ok(parts.push(expr)?),
-    }
 }
 
 /// Appends the name of a value to the last line.

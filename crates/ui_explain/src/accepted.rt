@@ -113,8 +113,7 @@ impl ExplainedSession<'_> {
         self.tell_place(notes, pid, before.0)?;
         for at in first..place {
             let number = (at as usize).saturating_add(1);
-            self.view
-                .tell_event(notes, EventNews::MadeByBatch, pid, number)?;
+            self.view.tell_event(notes, EventNews::Made, pid, number)?;
         }
         Ok(())
     }

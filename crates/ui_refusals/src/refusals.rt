@@ -92,6 +92,25 @@ impl RefusingSession<'_> {
         Ok(())
     }
 
+    // Says what prevents a command: of a guard that is false, which of its parts hold.
+    fn tell_prevention(
+        &self,
+        notes: &mut Notes,
+        pid: Pid,
+        choice: Choice,
+        refusal: &Refusal,
+    ) -> Result<(), Refusal> {
+        let is_told = match refusal {
+            Refusal::GuardFalse => self.tell_false_guard(notes, pid, choice)?,
+            _ => false,
+        };
+        if is_told {
+            return Ok(());
+        }
+        let scope = self.view.scope(pid);
+        scope.tell_hindrance(notes, self.view.session.world, choice)
+    }
+
     fn tell_of_process(
         &self,
         notes: &mut Notes,
@@ -104,7 +123,7 @@ impl RefusingSession<'_> {
             Refusal::UnknownChoice => self.tell_commands(notes, pid)?,
             Refusal::GuardFalse | Refusal::Fault | Refusal::ChannelEmpty => {
                 if let Some(choice) = self.choice_of(plan) {
-                    scope.tell_hindrance(notes, self.view.session.world, choice)?;
+                    self.tell_prevention(notes, pid, choice, refusal)?;
                 }
             }
             Refusal::NoneEnabled => scope.tell_hindrances(notes, self.view.session.world)?,

@@ -1,9 +1,11 @@
 //! Why a command of a batch is refused.
 
 use crate::refusing::RefusingSession;
-use dbg_base::{Name, Plan, Refusal};
+use crate::trial::Trial;
+use dbg_base::{Choice, Name, Pid, Plan, Refusal};
 use std::alloc::{AllocError, Global};
 use ui_text::{Notes, Part, meaning};
+use ui_view::Hindrance;
 
 // The refusal of this number, if it names no process, no breakpoint and no seat.
 fn refusal_of(number: u32) -> Option<Refusal> {
@@ -111,6 +113,20 @@ impl RefusingSession<'_> {
         Ok(())
     }
 
+    // Says which command of a batch is refused, and the meaning of its refusal.
+    fn tell_which(
+        &self,
+        notes: &mut Notes,
+        plans: &[Plan],
+        at: u32,
+        number: u32,
+    ) -> Result<(), AllocError> {
+        let position = Part::Natural(at);
+        notes.say_with("command {} of the batch", &[position])?;
+        self.put_plan_of_batch(notes, plans, at)?;
+        notes.add_with(": {}", &[Part::Text(meaning(number))])
+    }
+
     /// Says which command of a batch is refused, and why.
     pub(crate) fn tell_in_batch(
         &self,
@@ -119,18 +135,73 @@ impl RefusingSession<'_> {
         at: u32,
         number: u32,
     ) -> Result<(), Refusal> {
-        notes.say_with("command {} of the batch", &[Part::Natural(at)])?;
-        self.put_plan_of_batch(notes, plans, at)?;
-        notes.add_with(": {}", &[Part::Text(meaning(number))])?;
+        self.tell_which(notes, plans, at, number)?;
         match plans.first() {
             Some(plan) if at == 1 => self.tell_first(notes, plan, number),
             _ if number == 9 => {
                 let before = (at as usize).saturating_sub(1);
                 self.tell_halting(notes, plans.get(..before).unwrap_or(plans))
             }
-            _ => Ok(notes.say(
-                "the commands before it were accepted, and are undone: of a batch all commands are made, or none",
-            )?),
+            _ => self.tell_after(notes, plans, at),
+        }
+    }
+
+    // Says what prevents a command of a process in the state of this trial.
+    fn tell_in_trial(
+        &self,
+        notes: &mut Notes,
+        trial: &Trial<'_>,
+        pid: Pid,
+        choice: Choice,
+        is_alone: bool,
+    ) -> Result<(), Refusal> {
+        let scope = self.view.scope(pid);
+        let command = self.view.session.program.command(pid, choice);
+        let (Some(command), Some(env)) = (command, trial.env(pid)) else {
+            return Ok(());
+        };
+        let Some(hindrance) = trial.find(pid, choice)? else {
+            return Ok(());
+        };
+        let has_parts = is_alone && hindrance == Hindrance::GuardFalse;
+        if has_parts && self.tell_guard_parts(notes, pid, choice, &command.guard, env)? {
+            return Ok(());
+        }
+        notes.say("")?;
+        scope.put_command(notes, choice)?;
+        notes.add(": ")?;
+        Ok(scope.put_hindrance(notes, env, command, hindrance)?)
+    }
+
+    // Says that the commands before the one at this position of a batch, from 1, were accepted, and what prevents that one.
+    fn tell_after(&self, notes: &mut Notes, plans: &[Plan], at: u32) -> Result<(), Refusal> {
+        notes.say(
+            "the commands before it were accepted, and are undone: of a batch all commands are made, or none",
+        )?;
+        self.tell_trial(notes, plans, at)
+    }
+
+    // Says what prevents that command after those before it, if these make events alone.
+    fn tell_trial(&self, notes: &mut Notes, plans: &[Plan], at: u32) -> Result<(), Refusal> {
+        let session = self.view.session;
+        let mut trial = Trial::begin(notes.alloc(), session.program, session.world)?;
+        let before = (at as usize).saturating_sub(1);
+        for plan in plans.get(..before).unwrap_or(plans) {
+            if !trial.give(plan)? {
+                return Ok(());
+            }
+        }
+        match plans.get(before) {
+            Some(Plan::Step(pid, choice)) => {
+                self.tell_in_trial(notes, &trial, *pid, *choice, true)
+            }
+            Some(Plan::Next(pid)) => {
+                for number in 0..session.program.commands(*pid) {
+                    self.tell_in_trial(notes, &trial, *pid, Choice(number), false)?;
+                }
+                Ok(())
+            }
+            _ => Ok(()),
         }
     }
 }

@@ -1,11 +1,14 @@
 //! A line of a session as its author wrote it, and the lines that are played for it.
 
-use crate::words::{LineWords, completed, is_for, is_plain, repeated, without_comment};
+use crate::words::{
+    LineWords, completed, expectation, is_for, is_plain, repeated, without_comment,
+};
 use crate::written_program::WrittenProgram;
 use dbg_base::Name;
 use dbg_base::limits::LINE_BYTES;
 use notation::{Fault, LineExpander, NotationError};
 use shell_io::GivenLine;
+use shell_parse::next_word;
 use shell_serve::{Answer, Span};
 use std::alloc::{AllocError, Global};
 use ui_view::Answered;
@@ -47,6 +50,16 @@ pub(crate) struct ReadLine<'a> {
 // Whether a line that is repeated ends after this answer.
 fn stops(answer: Answer) -> bool {
     matches!(answer, Answer::Refused | Answer::Halted | Answer::Ended)
+}
+
+// What is played for a remark: an expected reply after a carriage return is played without that, and another one as it is.
+fn without_first_return<'x>(line: &'x [u8], played: &'x [u8]) -> &'x [u8] {
+    match expectation(line) {
+        Some(begun) if line.len() <= LINE_BYTES && next_word(line).0.first() != begun.first() => {
+            begun
+        }
+        _ => played,
+    }
 }
 
 impl<'a> ReadLine<'a> {
@@ -135,7 +148,9 @@ impl<'a> ReadLine<'a> {
         if line.len() > LINE_BYTES || words.are_remark() {
             let is_whole = line.len() > LINE_BYTES || LineWords::of(line).are_remark();
             let played = if is_whole { line } else { bare };
-            return self.played.extend_from_slice(played);
+            return self
+                .played
+                .extend_from_slice(without_first_return(line, played));
         }
         if self.expander.is_none() && words.are_whole() {
             let (once, times) = repeated(bare, &words).unwrap_or((bare, 1));

@@ -13,6 +13,18 @@ fn is_number(word: &[u8]) -> bool {
     !word.is_empty() && word.iter().all(|byte| byte.is_ascii_digit())
 }
 
+/// The line from its `>` on, if it gives an expected reply. A carriage return before the `>` is like a blank, since no command begins with it.
+pub(crate) fn expectation(line: &[u8]) -> Option<&[u8]> {
+    let is_blank = |byte: &u8| matches!(*byte, b' ' | b'\t' | b'\r');
+    let blanks = line.iter().take_while(|byte| is_blank(*byte)).count();
+    let begun = line.get(blanks..)?;
+    if begun.first() == Some(&b'>') {
+        Some(begun)
+    } else {
+        None
+    }
+}
+
 /// The words of a line.
 #[derive(Clone, Copy)]
 pub struct LineWords<'a> {
@@ -25,7 +37,10 @@ pub struct LineWords<'a> {
 impl<'a> LineWords<'a> {
     /// Those of this line.
     pub fn of(line: &'a [u8]) -> LineWords<'a> {
-        let (first, rest) = next_word(without_return(line));
+        let (first, rest) = match expectation(line) {
+            Some(begun) => next_word(begun),
+            None => next_word(without_return(line)),
+        };
         let (command, arguments) = if is_number(first) {
             next_word(rest)
         } else {
@@ -108,11 +123,7 @@ pub(crate) fn without_comment(line: &[u8]) -> &[u8] {
 
 /// The expected reply that this line gives, if it gives one.
 pub fn wanted(line: &[u8]) -> Option<&[u8]> {
-    if next_word(without_return(line)).0.first() != Some(&b'>') {
-        return None;
-    }
-    let from = line.iter().position(|byte| *byte == b'>')?;
-    Some(line.get(from.saturating_add(1)..)?.trim_ascii())
+    Some(expectation(line)?.get(1..)?.trim_ascii())
 }
 
 /// The line, which has no comment, with its command word completed, if that is the start of exactly one that fits. The command follows so many

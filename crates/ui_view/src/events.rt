@@ -225,8 +225,6 @@ impl ProcessView<'_> {
 pub enum EventNews {
     /// A command made it.
     Made,
-    /// A command of a batch made it.
-    MadeByBatch,
     /// It is about to be undone.
     Undone,
 }
@@ -248,9 +246,6 @@ impl SourceView<'_> {
         let scope = self.scope(pid);
         let columns = EventColumns::of(self.session.program, self.text);
         notes.begin_line(Style::Plain)?;
-        if news == EventNews::MadeByBatch {
-            notes.add("  ")?;
-        }
         let word = Part::Text(number_word(self.text));
         notes.add_with("{}{}{}", &[scope.head(), word, Part::Count(number)])?;
         if columns.has_messages {

@@ -4,70 +4,15 @@ use crate::expressions::ProcessView;
 use crate::finding::find_hindrance;
 use crate::hindrance::Hindrance;
 use causal_world::World;
-use dbg_base::limits::OPEN_PARENTHESES;
-use dbg_base::{Choice, Expr, Operator, Refusal};
-use local_eval::{Env, eval, guard};
+use dbg_base::{Choice, Expr, Refusal};
+use local_eval::{Env, eval};
 use proc_tree::{Action, Guarded};
 use std::alloc::{AllocError, Global};
+use ui_conditions::{faulting_part, is_range_check};
 use ui_text::{Notes, Part, meaning};
 
 // At most this many bytes of an expression are shown.
 const SHOWN: usize = 160;
-
-// The operand of an expression that faults in which its fault occurs.
-fn faulting_operand<'e>(expr: &'e Expr, env: &Env) -> Option<&'e Expr> {
-    match expr {
-        Expr::Not(operand) | Expr::Negate(operand) if eval(operand, env).is_err() => Some(operand),
-        Expr::Binary(_, left, _) if eval(left, env).is_err() => Some(left),
-        // If the left side decides, the right side is not evaluated, and then the expression does not fault.
-        Expr::Binary(_, _, right) if eval(right, env).is_err() => Some(right),
-        _ => None,
-    }
-}
-
-// The smallest part of an expression that faults, unless it is the whole expression.
-fn faulting_part<'e>(expr: &'e Expr, env: &Env) -> Option<&'e Expr> {
-    let mut part = None;
-    // The deepest that expressions are nested.
-    for _ in 0..=OPEN_PARENTHESES {
-        match faulting_operand(part.unwrap_or(expr), env) {
-            Some(operand) => part = Some(operand),
-            None => break,
-        }
-    }
-    part
-}
-
-// The first part of a conjunction that is false, from the left. Of another expression, the expression itself.
-fn false_part<'e>(expr: &'e Expr, env: &Env) -> &'e Expr {
-    let mut part = expr;
-    // The deepest that expressions are nested.
-    for _ in 0..=OPEN_PARENTHESES {
-        match part {
-            Expr::Binary(Operator::And, left, right) => {
-                part = match guard(left, env) {
-                    Ok(true) => right,
-                    _ => left,
-                };
-            }
-            _ => break,
-        }
-    }
-    part
-}
-
-// Whether an expression is the check of a packed message that each field is in its range: 0 is divided by a quotient of 1.
-fn is_range_check(expr: &Expr) -> bool {
-    let Expr::Binary(Operator::Divide, left, right) = expr else {
-        return false;
-    };
-    match (&**left, &**right) {
-        (Expr::Number(0), Expr::Binary(Operator::Divide, one, _)) => {
-            matches!(&**one, Expr::Number(1))
-        }
-        _ => false,
-    }
-}
 
 impl ProcessView<'_> {
     /// Appends an expression to the last line. Of a long one it is the beginning.
@@ -89,7 +34,7 @@ impl ProcessView<'_> {
         let part = faulting_part(expr, env);
         if self.text.is_model() && part.is_some_and(is_range_check) {
             notes.add("a field of a message is outside its range")?;
-            return self.put_values(notes, env, expr);
+            return self.put_values(notes, env, &[expr]);
         }
         self.put_shortened(notes, expr)?;
         notes.add(" faults")?;
@@ -97,7 +42,7 @@ impl ProcessView<'_> {
             notes.add(" at ")?;
             self.put_shortened(notes, part)?;
         }
-        self.put_values(notes, env, expr)
+        self.put_values(notes, env, &[expr])
     }
 
     /// Appends an expression that does not hold, since it is false or faults, and the values of the names in it to the last line. Of a
@@ -106,10 +51,12 @@ impl ProcessView<'_> {
         if eval(expr, env).is_err() {
             return self.put_fault(notes, env, expr);
         }
-        let part = false_part(expr, env);
-        self.put_shortened(notes, part)?;
-        notes.add(" is false")?;
-        self.put_values(notes, env, part)
+        for part in &self.condition_parts(notes.alloc(), env, expr)? {
+            if part.holding(env) < part.least {
+                return self.put_false_part(notes, env, part);
+            }
+        }
+        Ok(())
     }
 
     // Appends the first expression of a command that faults in this state to the last line.
@@ -152,8 +99,8 @@ impl ProcessView<'_> {
         self.put_faulting(notes, &after, command)
     }
 
-    // Appends what prevents this command in this local state to the last line.
-    fn put_hindrance(
+    /// Appends what prevents this command in this local state to the last line.
+    pub fn put_hindrance(
         &self,
         notes: &mut Notes,
         env: &Env,

@@ -12,6 +12,7 @@ mod expressions;
 mod finding;
 mod hindrance;
 mod hindrances;
+mod parts;
 mod replies;
 mod values;
 mod view;

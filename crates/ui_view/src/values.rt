@@ -4,6 +4,7 @@ use crate::expressions::{ProcessView, count_form};
 use dbg_base::{Direction, Expr, Pid};
 use local_eval::Env;
 use std::alloc::AllocError;
+use ui_conditions::put_folded;
 use ui_text::{Notes, Part};
 
 /// A value of a process that an expression may name.
@@ -23,6 +24,11 @@ pub fn names(expr: &Expr, named: NamedValue) -> bool {
         Expr::Not(operand) | Expr::Negate(operand) => names(operand, named),
         Expr::Binary(_, left, right) => names(left, named) || names(right, named),
     }
+}
+
+// Whether one of these expressions names this value of the process.
+fn name_one(expressions: &[&Expr], named: NamedValue) -> bool {
+    expressions.iter().any(|expr| names(expr, named))
 }
 
 /// Whether an expression of a process names this variable of the process.
@@ -73,40 +79,45 @@ impl ProcessView<'_> {
         Ok(())
     }
 
-    /// Appends the values of the variables and counts that an expression names to the last line.
-    pub fn put_values(&self, notes: &mut Notes, env: &Env, expr: &Expr) -> Result<(), AllocError> {
-        let mut word = ": ";
+    /// Appends the values of the variables and counts that expressions name to the last line. Names that differ in an index, and have the same
+    /// value, are one with a range.
+    pub fn put_values(
+        &self,
+        notes: &mut Notes,
+        env: &Env,
+        expressions: &[&Expr],
+    ) -> Result<(), AllocError> {
+        let mut values = Notes::new(notes.alloc());
         for variable in 0..self.program.variables(self.pid) {
             if let Some(value) = env.values().get(variable as usize) {
-                if names(expr, NamedValue::Variable(variable)) {
-                    self.put_variable(notes, &mut word, variable, *value)?;
+                if name_one(expressions, NamedValue::Variable(variable)) {
+                    values.say("")?;
+                    self.put_variable(&mut values, &mut "", variable, *value)?;
                 }
             }
         }
-        self.put_counts(notes, &mut word, env, expr, Direction::Sent)?;
-        self.put_counts(notes, &mut word, env, expr, Direction::Got)
+        self.tell_counts(&mut values, env, expressions, Direction::Sent)?;
+        self.tell_counts(&mut values, env, expressions, Direction::Got)?;
+        put_folded(notes, ": ", &values)?;
+        Ok(())
     }
 
-    fn put_counts(
+    // Says each count of messages in this direction that expressions name.
+    fn tell_counts(
         &self,
         notes: &mut Notes,
-        word: &mut &'static str,
         env: &Env,
-        expr: &Expr,
+        expressions: &[&Expr],
         direction: Direction,
     ) -> Result<(), AllocError> {
         for process in 0..self.program.processes() {
             let pid = Pid(process);
             if let Some(count) = env.counts(direction).get(process as usize) {
-                if names(expr, NamedValue::Count(direction, pid)) {
+                if name_one(expressions, NamedValue::Count(direction, pid)) {
                     let form = count_form(direction);
-                    put_value(
-                        notes,
-                        word,
-                        form,
-                        &[self.process(pid)],
-                        &Part::Natural(*count),
-                    )?;
+                    let count = Part::Natural(*count);
+                    notes.say("")?;
+                    put_value(notes, &mut "", form, &[self.process(pid)], &count)?;
                 }
             }
         }

@@ -1,0 +1,13 @@
+//! What a condition is made of: its parts, the members of which so many have to hold, and texts that differ in indices.
+#![tactic(auto)]
+
+mod comparing;
+mod counts;
+mod faults;
+mod index_ranges;
+mod parts;
+
+pub use counts::{MemberCount, find_count};
+pub use faults::{faulting_part, is_range_check};
+pub use index_ranges::{family_end, put_folded};
+pub use parts::put_conjuncts;
