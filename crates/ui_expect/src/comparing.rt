@@ -1,7 +1,7 @@
 //! Expected replies, and the replies that a session has.
 
 ghost use Rattle.std.specs.Prelude.{◌≡◌, None, is_none};
-ghost use Rattle.ui_expect.specs.Tests.{has_reply, are_met, expected_count};
+ghost use Rattle.ui_expect.specs.Tests.{has_reply, are_met, expected_count, tested_by};
 ghost use Rattle.ui_expect.specs.declared.comparing.PlayedLine.TheVariants.{Unanswered};
 
 use ui_repl::ReplyForms;
@@ -26,6 +26,32 @@ pub struct Comparison {
     pub wrong: Option<usize>,
     /// How many expected replies come before it.
     pub compared: usize,
+}
+
+/// The result of a session in which a line `> REPLY` gives the expected reply to the command line before it.
+#[derive(Clone, Copy, PartialEq, Eq)]
+pub enum Tested {
+    /// Each reply was the expected one.
+    Passed,
+    /// A reply was not, an expected reply is at a wrong place, the program was refused, or the input was too long.
+    Failed,
+    /// No reply is expected.
+    Unchecked,
+}
+
+impl Comparison {
+    /// The result of a session whose lines were compared so.
+    pub fn tested(&self) -> Tested
+        ensures { result ≡ tested_by (is_none self.now.wrong) self.now.compared }
+    {
+        if self.wrong.is_some() {
+            Tested::Failed
+        } else if self.compared == 0 {
+            Tested::Unchecked
+        } else {
+            Tested::Passed
+        }
+    }
 }
 
 // Whether the line before this expected reply has it, in one of its forms.

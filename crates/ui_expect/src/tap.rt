@@ -1,6 +1,6 @@
 //! Results in the Test Anything Protocol (https://testanything.org).
 
-use crate::testing::Tested;
+use crate::comparing::Tested;
 use shell_io::Sink;
 use shell_print::ServeFault;
 use std::alloc::Global;

@@ -1,10 +1,18 @@
 //! Sessions with expectations.
 
+ghost use Rattle.std.specs.Prelude.{◌≡◌, ℕ, ◌++◌, ◌∷◌, [], Some, None, IfOk};
+ghost use Rattle.std.specs.declared.alloc.Global.{Global};
+ghost use Rattle.std.specs.declared.vec.Vec.{Vec};
 ghost use Rattle.shell_serve.specs.Spans.{EndsWith};
+ghost use Rattle.ui_repl.specs.Expected.{IsComparable};
+ghost use Rattle.ui_repl.specs.declared.reply_forms.ReplyForms.{ReplyForms};
+ghost use Rattle.ui_expect.specs.Tests.{pending, tested_of, Reads};
+ghost use Rattle.ui_expect.specs.declared.comparing.PlayedLine.TheVariants as kinds;
 
-use crate::comparing::{PlayedLine, compare};
+use crate::comparing::Tested;
 use crate::explanation::LastExplanation;
 use crate::reports::{begin_refusal, begin_report, put_replies, tell_long_session};
+use crate::tested_lines::TestedLines;
 use dbg_base::Call;
 use dbg_command::SessionView;
 use shell_io::{Noted, Sink, Source};
@@ -12,36 +20,18 @@ use shell_print::{ServeFault, Served};
 use std::alloc::{AllocError, Global};
 use ui_repl::{
     AnsweredLine, ExpandedLine, LineFault, LineWords, OpenSession, Opening, PlayedSession,
-    ReplyForms, WrittenProgram, open, wanted, write_notes, write_text,
+    WrittenProgram, open, wanted, write_notes, write_text,
 };
 use ui_session::{Room, Typed};
 use ui_text::{Notes, Part};
-use ui_view::{Echo, Explainer};
+use ui_view::{Echo, Explainer, ReplyLines};
 
-/// The result of a session in which a line `> REPLY` gives the expected reply to the command line before it.
-#[derive(Clone, Copy, PartialEq, Eq)]
-pub enum Tested {
-    /// Each reply was the expected one.
-    Passed,
-    /// A reply was not, an expected reply is at a wrong place, the program was refused, or the input was too long.
-    Failed,
-    /// No reply is expected.
-    Unchecked,
-}
-
-// The last line that is no remark: its number in the input, its text, and its last reply.
+// The last line that is no remark: its number in the input, its text, and its last reply as it is shown.
 #[derive(Drop)]
 struct AskedLine {
     number: usize,
     text: Vec<u8>,
-    reply: Option<LastReply>,
-}
-
-// The last reply to a line as it is shown, and its forms.
-#[derive(Drop)]
-struct LastReply {
     shown: Vec<u8>,
-    forms: ReplyForms,
 }
 
 // Compares the replies of a session with the expected ones, line by line.
@@ -53,7 +43,7 @@ struct Tester<'a> {
     // The number of the present line in the input.
     number: usize,
     asked: AskedLine,
-    lines: Vec<PlayedLine>,
+    lines: TestedLines,
     // The report of the first expected reply that was not the reply.
     report: Option<Notes>,
 }
@@ -85,20 +75,23 @@ impl<'a> Tester<'a> {
             asked: AskedLine {
                 number,
                 text: Vec::new(alloc),
-                reply: None,
+                shown: Vec::new(alloc),
             },
-            lines: Vec::new(alloc),
+            lines: TestedLines::new(alloc),
             report: None,
         }
     }
 
     // Reports that the reply to the line before is not the expected one.
-    fn tell_difference(&self, wanted: &[u8], reply: &[u8]) -> Result<Notes, AllocError> {
+    fn tell_difference(&self, wanted: &[u8]) -> Result<Notes, AllocError> {
         let mut notes = Notes::new(self.alloc);
         let (number, line) = (self.asked.number, self.asked.text.as_slice());
         begin_report(&mut notes, self.name, number, line)?;
         notes.say_with("  expected: {}", &[Part::Bytes(wanted)])?;
-        notes.say_with("  reply:    {}", &[Part::Bytes(reply)])?;
+        notes.say_with(
+            "  reply:    {}",
+            &[Part::Bytes(self.asked.shown.as_slice())],
+        )?;
         self.explanation.put(&mut notes)?;
         Ok(notes)
     }
@@ -111,63 +104,106 @@ impl<'a> Tester<'a> {
         Ok(notes)
     }
 
-    // Keeps the first report.
-    fn report(&mut self, report: Notes) {
-        if self.report.is_none() {
-            self.report = Some(report);
+    // What is wrong with a line that expects this reply, if it is not the reply to the line before.
+    fn difference(
+        &self,
+        line: &[u8],
+        wanted: &[u8],
+        expected: &[u8],
+    ) -> Result<Option<Notes>, AllocError> {
+        match self.lines.reply() {
+            Some(forms) if forms.has(expected) => Ok(None),
+            Some(_) => Ok(Some(self.tell_difference(wanted)?)),
+            None => Ok(Some(self.tell_misplaced(line)?)),
         }
+    }
+
+    // Keeps what is wrong with such a line, if nothing was wrong before.
+    fn keep_difference(
+        &mut self,
+        line: &[u8],
+        wanted: &[u8],
+        expected: &[u8],
+    ) -> Result<(), AllocError>
+        ensures { self.new.lines ≡ self.old.lines }
+    {
+        if self.report.is_none() {
+            self.report = self.difference(line, wanted, expected)?;
+        }
+        Ok(())
     }
 
     // The line expects this reply.
-    fn expect(&mut self, line: &[u8], wanted: &[u8]) -> Result<(), AllocError> {
+    fn expect(&mut self, line: &[u8], wanted: &[u8]) -> Result<(), AllocError>
+        ensures { IfOk result (λ _. (made : Vec ℕ Global) × IsComparable wanted.now made.items
+            × (self.new.lines.lines.items ≡ self.old.lines.lines.items ++ pending self.old.lines.reply ++ (kinds.Expected made ∷ []))
+            × (self.new.lines.reply ≡ None)) }
+    {
         let expected = self.written.comparable(self.alloc, wanted)?;
-        match self.asked.reply.take() {
-            Some(LastReply { shown, forms }) => {
-                if !forms.has(expected.as_slice()) {
-                    let report = self.tell_difference(wanted, shown.as_slice())?;
-                    self.report(report);
-                }
-                self.lines.push(PlayedLine::Answered(forms))?;
-            }
-            None => {
-                let report = self.tell_misplaced(line)?;
-                self.report(report);
-            }
-        }
-        Ok(self.lines.push(PlayedLine::Expected(expected))?)
+        self.keep_difference(line, wanted, expected.as_slice())?;
+        self.lines.expect(expected)?;
+        Ok(())
     }
 
-    // A line begins, or one that is not played.
-    fn begin(&mut self, line: &[u8]) -> Result<(), AllocError> {
-        self.number = self.number.saturating_add(1);
-        if let Some(wanted) = wanted(line) {
-            return self.expect(line, wanted);
-        }
-        if LineWords::of(line).are_remark() {
-            return Ok(self.lines.push(PlayedLine::Remark)?);
-        }
+    // Another line begins, or one that is not played.
+    fn ask(&mut self, line: &[u8]) -> Result<(), AllocError>
+        ensures { IfOk result (λ _. (self.new.lines.lines.items ≡ self.old.lines.lines.items ++ (kinds.Unanswered ∷ []))
+            × (self.new.lines.reply ≡ None)) }
+    {
         self.asked.number = self.number;
         self.asked.text = Vec::from_slice(self.alloc, line)?;
-        self.asked.reply = None;
         self.explanation.forget();
-        Ok(self.lines.push(PlayedLine::Unanswered)?)
+        self.lines.begin()
+    }
+
+    // A line was read.
+    fn begin(&mut self, line: &[u8]) -> Result<(), AllocError>
+        ensures { IfOk result (λ _. Reads line.now self.old.lines.lines.items self.old.lines.reply self.new.lines.lines.items
+            self.new.lines.reply) }
+    {
+        self.number = self.number.saturating_add(1);
+        match wanted(line) {
+            Some(wanted) => self.expect(line, wanted),
+            None if LineWords::of(line).are_remark() => self.lines.remark(),
+            None => self.ask(line),
+        }
+    }
+
+    // The line was answered so.
+    fn answer(&mut self, replies: ReplyLines<'_>) -> Result<(), AllocError>
+        ensures lines { self.new.lines.lines ≡ self.old.lines.lines }
+        ensures reply { IfOk result (λ _. (forms : ReplyForms) × IsComparable replies.entry.shown.now forms.shown.items
+            × (forms.plain.items ≡ replies.entry.plain.now) × (self.new.lines.reply ≡ Some forms)) }
+    {
+        self.asked.shown = Vec::from_slice(self.alloc, replies.shown)?;
+        let forms = self.written.forms_of(self.alloc, replies)?;
+        self.lines.answer(forms);
+        Ok(())
     }
 
     // The report, and the result.
-    fn result(&mut self) -> Result<(Notes, Tested), ServeFault> {
-        let compared = compare(self.lines.as_slice()).compared;
-        if let Some(report) = self.report.take() {
-            return Ok((report, Tested::Failed));
-        }
+    fn result(&mut self) -> Result<(Notes, Tested), ServeFault>
+        ensures { IfOk result (λ told. told.1 ≡ tested_of self.old.lines.lines.items) }
+    {
+        let (tested, compared) = self.lines.tested();
         let mut notes = Notes::new(self.alloc);
-        notes.say_with("{}: ", &[Part::Text(self.name)])?;
-        if compared == 0 {
-            notes.add("no line `> REPLY` gives an expected reply")?;
-            return Ok((notes, Tested::Unchecked));
+        match tested {
+            Tested::Failed => {
+                if let Some(report) = self.report.take() {
+                    notes = report;
+                }
+            }
+            Tested::Unchecked => {
+                notes.say_with("{}: ", &[Part::Text(self.name)])?;
+                notes.add("no line `> REPLY` gives an expected reply")?;
+            }
+            Tested::Passed => {
+                notes.say_with("{}: ", &[Part::Text(self.name)])?;
+                notes.add("ok, ")?;
+                put_replies(&mut notes, compared)?;
+            }
         }
-        notes.add("ok, ")?;
-        put_replies(&mut notes, compared)?;
-        Ok((notes, Tested::Passed))
+        Ok((notes, tested))
     }
 }
 
@@ -190,10 +226,7 @@ impl Explainer<Option<LineFault>> for Tester<'_> {
     }
 
     fn explain(&mut self, line: &AnsweredLine<'_>, _notes: &mut Notes) -> Result<(), AllocError> {
-        self.asked.reply = Some(LastReply {
-            shown: Vec::from_slice(self.alloc, line.replies.shown)?,
-            forms: self.written.forms_of(self.alloc, line.replies)?,
-        });
+        self.answer(line.replies)?;
         self.explanation.explain(line)
     }
 }

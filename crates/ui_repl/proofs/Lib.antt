@@ -1,1 +1,3 @@
 pub mod TalkLemmas
+pub mod PlainLineLemmas
+mod PlainLineRows

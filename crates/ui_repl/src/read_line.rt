@@ -1,14 +1,14 @@
 //! A line of a session as its author wrote it, and the lines that are played for it.
 
-use crate::words::{
-    LineWords, completed, expectation, is_for, is_plain, repeated, without_comment,
-};
+ghost use Rattle.std.specs.Prelude.{◌≡◌, ◌⊎◌, ◌<◌, ◌≤◌, true, false, is_none, [], length, IfOk};
+ghost use Rattle.ui_repl.specs.PlainLines.{IsPlayed, once, repeated};
+ghost use Rattle.ui_repl.specs.ReadLines.{stops, IsBegun, IsRepeated};
+
+use crate::words::{bare, completed, is_for, is_plain, is_single, repeated};
 use crate::written_program::WrittenProgram;
 use dbg_base::Name;
-use dbg_base::limits::LINE_BYTES;
 use notation::{Fault, LineExpander, NotationError};
 use shell_io::GivenLine;
-use shell_parse::next_word;
 use shell_serve::{Answer, Span};
 use std::alloc::{AllocError, Global};
 use ui_view::Answered;
@@ -48,18 +48,98 @@ pub(crate) struct ReadLine<'a> {
 }
 
 // Whether a line that is repeated ends after this answer.
-fn stops(answer: Answer) -> bool {
+fn stops(answer: Answer) -> bool
+    ensures { result ≡ stops answer }
+{
     matches!(answer, Answer::Refused | Answer::Halted | Answer::Ended)
 }
 
-// What is played for a remark: an expected reply after a carriage return is played without that, and another one as it is.
-fn without_first_return<'x>(line: &'x [u8], played: &'x [u8]) -> &'x [u8] {
-    match expectation(line) {
-        Some(begun) if line.len() <= LINE_BYTES && next_word(line).0.first() != begun.first() => {
-            begun
-        }
-        _ => played,
+// Puts this line in place of the one that was played, and returns how often it is played again: not at all.
+fn put_once(line: &[u8], played: &mut Vec<u8>) -> Result<u32, AllocError>
+    ensures { IfOk result (λ again. record { text = played.new.items; again = again } ≡ once line.now) }
+{
+    played.clear();
+    played.extend_from_slice(line)?;
+    Ok(0)
+}
+
+// The same for a plain line, which is repeated if it says so.
+fn put_repeated(line: &[u8], played: &mut Vec<u8>) -> Result<u32, AllocError>
+    ensures { IfOk result (λ again. record { text = played.new.items; again = again } ≡ repeated line.now) }
+{
+    let (text, again) = repeated(line);
+    played.clear();
+    played.extend_from_slice(text)?;
+    Ok(again)
+}
+
+// The same for the plain line of this number, which is not repeated if it is single.
+fn put_next(
+    plain: &[Vec<u8>],
+    next: usize,
+    is_single: bool,
+    played: &mut Vec<u8>,
+) -> Result<u32, AllocError> {
+    let line = match plain.get(next) {
+        Some(line) => line.as_slice(),
+        None => &[],
+    };
+    if is_single {
+        put_once(line, played)
+    } else {
+        put_repeated(line, played)
     }
+}
+
+// The same for a line of a plain session.
+fn put_plain(alloc: Global, line: &[u8], played: &mut Vec<u8>) -> Result<u32, AllocError>
+    ensures { IfOk result (λ again. IsPlayed line.now (record { text = played.new.items; again = again })) }
+{
+    let bare = bare(line);
+    if is_single(line, bare) {
+        return put_once(bare, played);
+    }
+    match completed(alloc, bare, 0)? {
+        Some(whole) => put_repeated(whole.as_slice(), played),
+        None => put_repeated(bare, played),
+    }
+}
+
+// The plain lines of a command line of a model, which has no comment. If it cannot be expanded, it stays as it is.
+fn plain_lines(
+    alloc: Global,
+    expander: &mut LineExpander<'_>,
+    line: &[u8],
+    fault: &mut Option<LineFault>,
+) -> Result<Vec<Vec<u8>>, AllocError> {
+    let head = if is_for(line) {
+        expander.head(line)?
+    } else {
+        0
+    };
+    let whole = completed(alloc, line, head)?;
+    let line = match &whole {
+        Some(whole) => whole.as_slice(),
+        None => line,
+    };
+    let mut lines = match expander.expand(line) {
+        Ok(lines) => lines,
+        Err(NotationError::Bad(bad)) => {
+            let process = expander.process();
+            *fault = Some(LineFault {
+                fault: bad,
+                process,
+            });
+            let mut lines = Vec::new(alloc);
+            lines.push(Vec::from_slice(alloc, line)?)?;
+            lines
+        }
+        Err(NotationError::Memory) => return Err(AllocError),
+    };
+    if lines.is_empty() {
+        lines.push(Vec::new(alloc))?;
+    }
+    Ok(lines)
 }
 
 impl<'a> ReadLine<'a> {
@@ -88,97 +168,79 @@ impl<'a> ReadLine<'a> {
         })
     }
 
-    // Makes the plain lines of a command line without its comment. If it cannot be expanded, it stays as it is.
-    fn expand(&mut self, line: &[u8]) -> Result<(), AllocError> {
-        let head = match &self.expander {
-            Some(expander) if is_for(line) => expander.head(line)?,
-            _ => 0,
-        };
-        let whole = completed(self.alloc, line, head)?;
-        let line = match &whole {
-            Some(whole) => whole.as_slice(),
-            None => line,
-        };
-        let Some(expander) = &mut self.expander else {
-            return self.put_plain(line);
-        };
-        match expander.expand(line) {
-            Ok(lines) => self.plain = lines,
-            Err(NotationError::Bad(fault)) => {
-                let process = expander.process();
-                self.fault = Some(LineFault { fault, process });
-                self.put_plain(line)?;
-            }
-            Err(NotationError::Memory) => return Err(AllocError),
-        }
-        if self.plain.is_empty() {
-            self.put_plain(&[])?;
-        }
-        Ok(())
-    }
-
-    // Appends a plain line.
-    fn put_plain(&mut self, line: &[u8]) -> Result<(), AllocError> {
-        self.plain.push(Vec::from_slice(self.alloc, line)?)?;
-        Ok(())
-    }
-
     // Begins to play the next plain line.
-    fn take(&mut self) -> Result<(), AllocError> {
-        let line = match self.plain.get(self.next) {
-            Some(line) => line.as_slice(),
-            None => &[],
-        };
-        self.next = self.next.saturating_add(1);
-        self.played.clear();
-        let (once, times) = match repeated(line, &LineWords::of(line)) {
-            Some(repeated) if self.fault.is_none() && line.len() <= LINE_BYTES => repeated,
-            _ => (line, 1),
-        };
-        self.again = times.saturating_sub(1);
-        self.played.extend_from_slice(once)
+    fn take(&mut self) -> Result<(), AllocError>
+        ensures session { self.new.expander ≡ self.old.expander }
+        ensures same { (self.new.span ≡ self.old.span) × (self.new.is_as_written ≡ self.old.is_as_written) }
+    {
+        let next = self.next;
+        self.next = next.saturating_add(1);
+        let is_single = self.fault.is_some();
+        let plain = self.plain.as_slice();
+        self.again = put_next(plain, next, is_single, &mut self.played)?;
+        Ok(())
     }
 
     // Makes the first line that is played for this one.
     #[inline(never)]
-    fn make(&mut self, line: &[u8]) -> Result<(), AllocError> {
-        let bare = without_comment(line);
-        let words = LineWords::of(bare);
-        self.played.clear();
-        if line.len() > LINE_BYTES || words.are_remark() {
-            let is_whole = line.len() > LINE_BYTES || LineWords::of(line).are_remark();
-            let played = if is_whole { line } else { bare };
-            return self
-                .played
-                .extend_from_slice(without_first_return(line, played));
+    fn make(&mut self, line: &[u8]) -> Result<(), AllocError>
+        ensures session { is_none self.new.expander ≡ is_none self.old.expander }
+        ensures played { is_none self.old.expander ≡ true → IfOk result (λ _. IsPlayed line.now (record { text = self.new.played.items; again = self.new.again })) }
+        ensures same { (self.new.span ≡ self.old.span) × (self.new.is_as_written ≡ self.old.is_as_written) }
+        ensures alone { is_none self.old.expander ≡ true → (self.new.plain ≡ self.old.plain) × (self.new.next ≡ self.old.next) }
+    {
+        let Some(expander) = &mut self.expander else {
+            self.again = put_plain(self.alloc, line, &mut self.played)?;
+            return Ok(());
+        };
+        let bare = bare(line);
+        if is_single(line, bare) {
+            self.again = put_once(bare, &mut self.played)?;
+            return Ok(());
         }
-        if self.expander.is_none() && words.are_whole() {
-            let (once, times) = repeated(bare, &words).unwrap_or((bare, 1));
-            self.again = times.saturating_sub(1);
-            return self.played.extend_from_slice(once);
-        }
-        self.expand(bare)?;
+        self.plain = plain_lines(self.alloc, expander, bare, &mut self.fault)?;
         self.take()
     }
 
-    /// Begins to play a line that was read.
-    pub(crate) fn begin(&mut self, span: Span, line: &[u8], is_typed: bool) {
-        self.span = span;
-        self.is_typed = is_typed;
+    // Forgets the line that was read before.
+    fn forget(&mut self)
+        ensures session { self.new.expander ≡ self.old.expander }
+        ensures alone { (self.new.plain.items ≡ []) × (self.new.next ≡ 0) }
+        ensures begun { (self.new.again ≡ 0) × (self.new.is_lost ≡ false) × (self.new.is_as_written ≡ false) }
+    {
         if self.fault.is_some() {
             self.fault = None;
         }
-        if !self.plain.is_empty() {
-            self.plain.clear();
-        }
+        self.plain.clear();
         self.next = 0;
+        self.again = 0;
         self.is_first = true;
-        self.is_as_written = self.expander.is_none() && is_plain(line);
-        self.is_lost = !self.is_as_written && self.make(line).is_err();
+        self.is_as_written = false;
+        self.is_lost = false;
+    }
+
+    /// Begins to play a line that was read.
+    pub(crate) fn begin(&mut self, span: Span, line: &[u8], is_typed: bool)
+        ensures plain { is_none self.old.expander ≡ true → IsBegun line.now self.new }
+        ensures span { self.new.span ≡ span }
+        ensures session { is_none self.new.expander ≡ is_none self.old.expander }
+    {
+        self.forget();
+        self.span = span;
+        self.is_typed = is_typed;
+        if self.expander.is_none() && is_plain(line) {
+            self.is_as_written = true;
+            return;
+        }
+        self.is_lost = self.make(line).is_err();
     }
 
     /// Begins to play the next of its lines, after this answer to the one before. Returns whether there is one.
-    pub(crate) fn is_under_way(&mut self, last: Answer) -> bool {
+    pub(crate) fn is_under_way(&mut self, last: Answer) -> bool
+        ensures repeats { stops last ≡ false → 0 < self.old.again → (result ≡ true) × IsRepeated self.old self.new }
+        ensures ends { (stops last ≡ true) ⊎ (self.old.again ≡ 0) → length self.old.plain.items ≤ self.old.next → result ≡ false }
+        ensures session { is_none self.new.expander ≡ is_none self.old.expander }
+    {
         self.is_first = false;
         self.is_as_written = false;
         if self.again > 0 && !stops(last) {

@@ -1,28 +1,81 @@
 //! The words of a line as its author writes it.
 
-use dbg_base::limits::CALLS;
+ghost use Rattle.std.specs.Prelude.{◌≡◌, ◌==◌, ◌-◌, ◌++◌, ◌||◌, nat_lt, true, not, length, take, drop, IfOk, IfSome};
+ghost use Rattle.std.specs.List.{list_all, list_any, prefix_len};
+ghost use Rattle.std.specs.Str.{bytes_eq};
+ghost use Rattle.dbg_base.specs.declared.limits.TheConstants.{LINE_BYTES};
+ghost use Rattle.dbg_base.specs.Tokens.{is_digit, is_numeral, is_word_byte};
+ghost use Rattle.dbg_base.specs.CommandLines.{without_return};
+ghost use Rattle.ui_session.specs.Dialogues.{first_word, is_remark};
+ghost use Rattle.std.specs.Option.{option_map};
+ghost use Rattle.ui_repl.specs.Expected.{wanted_reply, trimmed_bytes};
+ghost use Rattle.ui_repl.specs.PlainLines.{
+  command_words,
+  command_word,
+  arguments,
+  without_comment,
+  number_of,
+  times_of,
+  times_after,
+  repeated,
+  is_kept,
+  bare,
+  completed_or,
+  once,
+  IsSeated,
+  IsFrequent,
+  IsCompleted,
+  IsPlayed,
+};
+
+use dbg_base::limits::{CALLS, LINE_BYTES};
 use shell_parse::{next_word, without_return};
 use std::alloc::{AllocError, Global};
-use ui_text::{is_whole_word, is_word_byte, whole_word};
+use ui_text::{is_whole_word, whole_word};
 
 // The most digits of a number of times.
 const DIGITS: usize = 6;
 
-// Whether a word can be a seat.
-fn is_number(word: &[u8]) -> bool {
-    !word.is_empty() && word.iter().all(|byte| byte.is_ascii_digit())
+fn are_digits(bytes: &[u8]) -> bool
+    ensures { result ≡ list_all is_digit bytes.now }
+{
+    bytes.iter().all(|byte| byte.is_ascii_digit())
 }
 
-/// The line from its `>` on, if it gives an expected reply. A carriage return before the `>` is like a blank, since no command begins with it.
-pub(crate) fn expectation(line: &[u8]) -> Option<&[u8]> {
-    let is_blank = |byte: &u8| matches!(*byte, b' ' | b'\t' | b'\r');
-    let blanks = line.iter().take_while(|byte| is_blank(*byte)).count();
-    let begun = line.get(blanks..)?;
-    if begun.first() == Some(&b'>') {
-        Some(begun)
-    } else {
-        None
+// Whether a word can be a seat.
+fn is_number(word: &[u8]) -> bool
+    ensures { result ≡ is_numeral word.now }
+{
+    match word {
+        [] => false,
+        [first, others @ ..] => first.is_ascii_digit() && are_digits(others),
     }
+}
+
+// Whether this is the word of a command or of a query.
+fn is_command(word: &[u8]) -> bool
+    ensures { result ≡ list_any (bytes_eq word.now) command_words }
+{
+    word == b"step".as_slice()
+        || word == b"next".as_slice()
+        || word == b"undo".as_slice()
+        || word == b"redo".as_slice()
+        || word == b"rollback".as_slice()
+        || word == b"break".as_slice()
+        || word == b"goto".as_slice()
+        || word == b"clear".as_slice()
+        || word == b"pass".as_slice()
+        || word == b"arm".as_slice()
+        || word == b"batch".as_slice()
+        || word == b"back".as_slice()
+        || word == b"breaks".as_slice()
+        || word == b"cut".as_slice()
+        || word == b"why".as_slice()
+        || word == b"vars".as_slice()
+        || word == b"chan".as_slice()
+        || word == b"clock".as_slice()
+        || word == b"place".as_slice()
+        || word == b"can".as_slice()
 }
 
 /// The words of a line.
@@ -36,11 +89,12 @@ pub struct LineWords<'a> {
 
 impl<'a> LineWords<'a> {
     /// Those of this line.
-    pub fn of(line: &'a [u8]) -> LineWords<'a> {
-        let (first, rest) = match expectation(line) {
-            Some(begun) => next_word(begun),
-            None => next_word(without_return(line)),
-        };
+    pub fn of(line: &'a [u8]) -> LineWords<'a>
+        ensures first { result.first.now ≡ first_word line.now }
+        ensures command { result.command.now ≡ command_word line.now }
+        ensures arguments { result.arguments.now ≡ arguments line.now }
+    {
+        let (first, rest) = next_word(without_return(line));
         let (command, arguments) = if is_number(first) {
             next_word(rest)
         } else {
@@ -54,27 +108,116 @@ impl<'a> LineWords<'a> {
     }
 
     /// Whether the line is blank, a comment or an expected reply.
-    pub fn are_remark(&self) -> bool {
-        matches!(self.first.first(), None | Some(b'#' | b'>'))
+    pub fn are_remark(&self) -> bool
+        ensures { result ≡ is_remark self.now.first.now }
+    {
+        match self.first.first() {
+            Some(byte) => *byte == b'#' || *byte == b'>',
+            None => true,
+        }
     }
 
     /// Whether the word of the command is not short.
-    pub(crate) fn are_whole(&self) -> bool {
-        is_whole_word(self.command)
+    pub(crate) fn are_whole(&self) -> bool
+        ensures { list_any (bytes_eq self.now.command.now) command_words ≡ true → result ≡ true }
+    {
+        is_command(self.command) || is_whole_word(self.command)
+    }
+}
+
+// How many bytes are before the first one that is this mark.
+fn length_before(line: &[u8], mark: u8) -> usize
+    ensures { result ≡ prefix_len (λ byte. not (byte == mark)) line.now }
+{
+    for (place, byte) in line.iter().enumerate() {
+        if *byte == mark {
+            return place;
+        }
+    }
+    line.len()
+}
+
+// The first bytes, so many.
+fn first_bytes(bytes: &[u8], count: usize) -> &[u8]
+    ensures { result.now ≡ take count bytes.now }
+{
+    bytes.get(..count).unwrap_or(bytes)
+}
+
+// The bytes after so many.
+fn later_bytes(bytes: &[u8], count: usize) -> &[u8]
+    ensures { result.now ≡ drop count bytes.now }
+{
+    bytes.get(count..).unwrap_or(&[])
+}
+
+/// The line without the comment at its end.
+pub(crate) fn without_comment(line: &[u8]) -> &[u8]
+    ensures { result.now ≡ without_comment line.now }
+{
+    let length = length_before(line, b'#');
+    if length < line.len() {
+        line[..length].trim_ascii_end()
+    } else {
+        line
+    }
+}
+
+/// Whether the line is played as it is: it has too many bytes, or is blank, a comment or an expected reply.
+fn is_kept(line: &[u8]) -> bool
+    ensures { result ≡ is_kept line.now }
+{
+    line.len() > LINE_BYTES || LineWords::of(line).are_remark()
+}
+
+/// The part of a line that is played: the line without its comment.
+pub(crate) fn bare(line: &[u8]) -> &[u8]
+    ensures { result.now ≡ bare line.now }
+{
+    if is_kept(line) {
+        line
+    } else {
+        without_comment(line)
+    }
+}
+
+// The line after a seat of one digit and a blank, if it begins so.
+fn after_seat(line: &[u8]) -> &[u8]
+    ensures { IsSeated line.now result.now }
+{
+    match line {
+        [seat, blank, command @ ..] if seat.is_ascii_digit() && *blank == b' ' => command,
+        _ => line,
+    }
+}
+
+// What follows these bytes, if the line begins with them.
+fn after_prefix<'a>(line: &'a [u8], prefix: &[u8]) -> Option<&'a [u8]>
+    ensures { IfSome result (λ rest. line.now ≡ prefix.now ++ rest.now) }
+{
+    line.strip_prefix(prefix)
+}
+
+// The bytes after one of the commands that are most of a session.
+fn after_command(line: &[u8]) -> Option<&[u8]>
+    ensures { IfSome result (λ name. IsFrequent line.now name.now) }
+{
+    match after_prefix(line, b"next ") {
+        Some(name) => Some(name),
+        None => match after_prefix(line, b"undo ") {
+            Some(name) => Some(name),
+            None => after_prefix(line, b"redo "),
+        },
     }
 }
 
 /// Whether a line is plain at a glance, as most are: a seat of one digit or none, one of these commands, and the name of a process.
-pub(crate) fn is_plain(line: &[u8]) -> bool {
-    let command = match line {
-        [b'1'..=b'9', b' ', command @ ..] => command,
-        _ => line,
-    };
-    match command {
-        [b'n', b'e', b'x', b't', b' ', name @ ..]
-        | [b'u', b'n', b'd', b'o', b' ', name @ ..]
-        | [b'r', b'e', b'd', b'o', b' ', name @ ..] => name.iter().all(|byte| is_word_byte(*byte)),
-        _ => false,
+pub(crate) fn is_plain(line: &[u8]) -> bool
+    ensures { result ≡ true → IsPlayed line.now (once line.now) }
+{
+    match after_command(after_seat(line)) {
+        Some(name) => are_word_bytes(name),
+        None => false,
     }
 }
 
@@ -87,6 +230,25 @@ pub(crate) fn is_for(line: &[u8]) -> bool {
 pub(crate) fn without_seat(line: &[u8]) -> &[u8] {
     let (first, rest) = next_word(line);
     if is_number(first) { rest } else { line }
+}
+
+fn is_word_byte(byte: u8) -> bool
+    ensures { result ≡ is_word_byte byte }
+{
+    byte.is_ascii_lowercase() || byte.is_ascii_digit() || byte == b'_'
+}
+
+fn are_word_bytes(bytes: &[u8]) -> bool
+    ensures { result ≡ list_all is_word_byte bytes.now }
+{
+    bytes.iter().all(|byte| is_word_byte(*byte))
+}
+
+/// Whether a line, of which this part is played, is played as it is.
+pub(crate) fn is_single(line: &[u8], bare: &[u8]) -> bool
+    ensures { result ≡ (nat_lt LINE_BYTES (length line.now) || is_remark (first_word bare.now)) }
+{
+    line.len() > LINE_BYTES || LineWords::of(bare).are_remark()
 }
 
 // How many words there are. Blanks in brackets or parentheses separate no words.
@@ -112,18 +274,24 @@ fn count_words(bytes: &[u8]) -> usize {
     count
 }
 
-/// The line without the comment at its end.
-pub(crate) fn without_comment(line: &[u8]) -> &[u8] {
-    let length = line.iter().take_while(|byte| **byte != b'#').count();
-    match line.get(length..) {
-        Some([]) | None => line,
-        Some(_) => line.get(..length).unwrap_or(line).trim_ascii_end(),
-    }
-}
-
-/// The expected reply that this line gives, if it gives one.
-pub fn wanted(line: &[u8]) -> Option<&[u8]> {
-    Some(expectation(line)?.get(1..)?.trim_ascii())
+// The line with this word in place of that of its command, whose words follow so many bytes.
+fn with_command(
+    alloc: Global,
+    line: &[u8],
+    words: &LineWords<'_>,
+    word: &[u8],
+) -> Result<Vec<u8>, AllocError>
+    ensures { IfOk result (λ made. made.items ≡ (let end = length (without_return line.now) - length words.now.arguments.now in
+        take (end - length words.now.command.now) line.now ++ word.now ++ drop end line.now)) }
+{
+    let end = without_return(line)
+        .len()
+        .saturating_sub(words.arguments.len());
+    let begin = end.saturating_sub(words.command.len());
+    let mut text = Vec::from_slice(alloc, first_bytes(line, begin))?;
+    text.extend_from_slice(word)?;
+    text.extend_from_slice(later_bytes(line, end))?;
+    Ok(text)
 }
 
 /// The line, which has no comment, with its command word completed, if that is the start of exactly one that fits. The command follows so many
@@ -132,43 +300,93 @@ pub(crate) fn completed(
     alloc: Global,
     line: &[u8],
     head: usize,
-) -> Result<Option<Vec<u8>>, AllocError> {
-    let code = without_return(line);
-    let words = LineWords::of(code.get(head..).unwrap_or(&[]));
+) -> Result<Option<Vec<u8>>, AllocError>
+    ensures { IfOk result (λ made. IsCompleted head line.now (completed_or line.now made)) }
+{
+    let words = LineWords::of(later_bytes(line, head));
     if words.are_whole() {
         return Ok(None);
     }
     let Some(whole) = whole_word(words.command, count_words(words.arguments)) else {
         return Ok(None);
     };
-    let end = code.len().saturating_sub(words.arguments.len());
-    let begin = end.saturating_sub(words.command.len());
-    let mut text = Vec::from_slice(alloc, line.get(..begin).unwrap_or(&[]))?;
-    text.extend_from_slice(whole.as_bytes())?;
-    text.extend_from_slice(line.get(end..).unwrap_or(&[]))?;
-    Ok(Some(text))
+    let longer = whole.as_bytes();
+    if !longer.starts_with(words.command) {
+        return Ok(None);
+    }
+    Ok(Some(with_command(alloc, line, &words, longer)?))
+}
+
+// The bytes after the first `>`, without the blanks around them.
+fn after_mark(line: &[u8]) -> &[u8]
+    ensures { result.now ≡ trimmed_bytes (drop 1 (drop (prefix_len (λ byte. not (byte == 62)) line.now) line.now)) }
+{
+    let marked = later_bytes(line, length_before(line, b'>'));
+    later_bytes(marked, 1).trim_ascii()
+}
+
+/// The expected reply that this line gives, if it gives one.
+pub fn wanted(line: &[u8]) -> Option<&[u8]>
+    ensures { option_map (λ text. text.now) result ≡ wanted_reply line.now }
+{
+    match LineWords::of(line).first {
+        [b'>', ..] => Some(after_mark(line)),
+        _ => None,
+    }
+}
+
+// A number of one to six digits.
+fn number_of(word: &[u8]) -> Option<u32>
+    ensures { result ≡ number_of word.now }
+{
+    if word.is_empty() || word.len() > DIGITS {
+        return None;
+    }
+    let mut number = 0u32;
+    for b in word {
+        if !b.is_ascii_digit() {
+            return None;
+        }
+        number = number * 10 + u32::from(*b - b'0');
+    }
+    Some(number)
 }
 
 // The number of times that a word gives: from 1 to the most calls that a session has.
-fn times_of(word: &[u8]) -> Option<u32> {
-    if !is_number(word) || word.len() > DIGITS {
-        return None;
+fn times_of(word: &[u8]) -> Option<u32>
+    ensures { result ≡ times_of word.now }
+{
+    match number_of(word) {
+        Some(times) if times >= 1 && times as usize <= CALLS => Some(times),
+        _ => None,
     }
-    let times = str::from_utf8(word).ok()?.parse::<u32>().ok()?;
-    Some(times).filter(|times| 1 <= *times && *times as usize <= CALLS)
 }
 
-/// Of a plain line `next P N`, the line without N, and N.
-pub(crate) fn repeated<'a>(line: &'a [u8], words: &LineWords<'_>) -> Option<(&'a [u8], u32)> {
-    if !matches!(words.command, b"next") {
-        return None;
-    }
-    let (process, others) = next_word(words.arguments);
+// The number of times after a process, if nothing follows it.
+fn times_after(arguments: &[u8]) -> Option<u32>
+    ensures { result ≡ times_after arguments.now }
+{
+    let (process, others) = next_word(arguments);
     let (count, rest) = next_word(others);
     if process.is_empty() || !next_word(rest).0.is_empty() {
         return None;
     }
-    let times = times_of(count)?;
+    times_of(count)
+}
+
+/// Of a plain line `next P N`, the line without N, and how often it is played again: N - 1. Of another line, the line, and 0.
+pub(crate) fn repeated(line: &[u8]) -> (&[u8], u32)
+    ensures text { result.0.now ≡ (repeated line.now).text }
+    ensures again { result.1 ≡ (repeated line.now).again }
+{
+    let words = LineWords::of(line);
+    if line.len() > LINE_BYTES || words.command != b"next".as_slice() {
+        return (line, 0);
+    }
+    let Some(times) = times_after(words.arguments) else {
+        return (line, 0);
+    };
+    let others = next_word(words.arguments).1;
     let length = without_return(line).len().saturating_sub(others.len());
-    Some((line.get(..length)?, times))
+    (first_bytes(line, length), times.saturating_sub(1))
 }
