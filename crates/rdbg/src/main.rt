@@ -1,25 +1,21 @@
 //! The program `rdbg`: passes its arguments to `asked` and its streams to `serve`, `check` or `run_crew`, and ends with their status.
 #![tactic(auto)]
 
-mod output;
 mod paint;
 mod replaying;
 mod serving;
 mod sessions;
 mod talking;
 mod testing;
-#[cfg(test)]
-mod tests;
 mod typing;
 mod words;
 
 use clap::error::ErrorKind;
 use dbg_shell::{Coloring, Job, Request, Work, asked, check, crew_status, run_crew, status};
-use output::Output;
 use paint::{Look, Painted, Stream};
 use replaying::replay_files;
 use serving::run;
-use shell_io::{Noted, Sink, one_after_the_other};
+use shell_io::{Noted, Output, Sink, one_after_the_other};
 use std::io::{Error, IsTerminal};
 use std::process::ExitCode;
 use std::sync::Wait;

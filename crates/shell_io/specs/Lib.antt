@@ -1,3 +1,4 @@
 pub mod Healths
 pub mod Lines
+pub mod Outputs
 pub mod Seen

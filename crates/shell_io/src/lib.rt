@@ -6,6 +6,7 @@ mod fixed_buffer;
 mod given_line;
 mod health;
 mod noted;
+mod output;
 mod streams;
 mod style;
 
@@ -14,5 +15,6 @@ pub use fixed_buffer::FixedBuffer;
 pub use given_line::GivenLine;
 pub use health::Health;
 pub use noted::Noted;
+pub use output::Output;
 pub use streams::{Sink, Source};
 pub use style::{Style, StyledWrite};

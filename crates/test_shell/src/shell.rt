@@ -6,6 +6,7 @@ mod crews;
 mod faults;
 mod jobs;
 mod limits;
+mod outputs;
 mod sessions;
 
 use crate::expecting::{expect_same, expect_true};

@@ -1,7 +1,7 @@
-//! Tests of what no contract says.
+//! The buffered output: what it does after a failure, and the order of bytes and styles.
 
-use crate::output::Output;
-use shell_io::{Sink, Style, StyledWrite};
+use crate::expecting::{expect_same, expect_true};
+use shell_io::{Output, Sink, Style, StyledWrite};
 use std::alloc::Global;
 use std::io;
 use std::io::{ErrorKind, Write};
@@ -76,15 +76,15 @@ fn a_write_that_failed_is_not_tried_again(rt: HostRuntime) -> Result<(), Fail> {
         for (left, taken) in [(0, 0), (1, 4), (2, 8)] {
             let mut stumbles = Stumbles::new(rt.alloc(), left, fault);
             let mut output = Output::new(&mut stumbles);
-            assert_eq!(rt; output.write(text)?, 10);
-            assert!(rt; output.flush().is_err());
-            assert!(rt; output.flush().is_err());
-            assert!(rt; output.write(text).is_err());
-            assert!(rt; output.set_style(Style::Value).is_err());
+            expect_same(&rt, output.write(text)?, 10);
+            expect_true(&rt, output.flush().is_err());
+            expect_true(&rt, output.flush().is_err());
+            expect_true(&rt, output.write(text).is_err());
+            expect_true(&rt, output.set_style(Style::Value).is_err());
             drop(output);
-            assert_eq!(rt; stumbles.taken.as_slice(), text.get(..taken).unwrap_or(&[]));
-            assert_eq!(rt; (stumbles.calls, stumbles.flushes), (left + 1, 0));
-            assert!(rt; stumbles.styles.is_empty());
+            expect_same(&rt, stumbles.taken.as_slice(), text.get(..taken).unwrap_or(&[]));
+            expect_same(&rt, (stumbles.calls, stumbles.flushes), (left + 1, 0));
+            expect_true(&rt, stumbles.styles.is_empty());
         }
     }
     Ok(())
@@ -109,11 +109,11 @@ fn bytes_and_styles_go_out_in_order(rt: HostRuntime) -> Result<(), Fail> {
     let mut rest = text.as_slice();
     for (size, taken, style) in steps {
         let piece = &rest[..rest.len().min(size)];
-        assert_eq!(rt; output.write(piece)?, taken);
+        expect_same(&rt, output.write(piece)?, taken);
         rest = rest.get(taken..).unwrap_or(&[]);
         output.set_style(style)?;
     }
-    assert!(rt; rest.is_empty());
+    expect_true(&rt, rest.is_empty());
     output.flush()?;
     drop(output);
     let styles = [
@@ -122,9 +122,9 @@ fn bytes_and_styles_go_out_in_order(rt: HostRuntime) -> Result<(), Fail> {
         (8_292, Style::Plain),
         (16_484, Style::Plain),
     ];
-    assert_eq!(rt; stumbles.flushes, 1);
-    assert_eq!(rt; stumbles.styles.as_slice(), styles.as_slice());
-    assert_eq!(rt; stumbles.taken.as_slice(), text.as_slice());
+    expect_same(&rt, stumbles.flushes, 1);
+    expect_same(&rt, stumbles.styles.as_slice(), styles.as_slice());
+    expect_same(&rt, stumbles.taken.as_slice(), text.as_slice());
     Ok(())
 }
 
@@ -134,14 +134,14 @@ fn dropping_the_output_writes_nothing(rt: HostRuntime) -> Result<(), Fail> {
         let mut stumbles = Stumbles::new(rt.alloc(), 100, None);
         stumbles.shows_styles = shows_styles;
         let mut output = Output::new(&mut stumbles);
-        assert_eq!(rt; output.write(b"lost")?, 4);
+        expect_same(&rt, output.write(b"lost")?, 4);
         // A style is for a writer that shows it, and writes the bytes before it there.
         if !shows_styles {
             output.set_style(Style::Value)?;
         }
         drop(output);
-        assert_eq!(rt; stumbles.calls, 0);
-        assert!(rt; stumbles.styles.is_empty());
+        expect_same(&rt, stumbles.calls, 0);
+        expect_true(&rt, stumbles.styles.is_empty());
     }
     Ok(())
 }

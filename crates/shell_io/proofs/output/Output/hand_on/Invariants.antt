@@ -1,8 +1,8 @@
 use Rattle.std.proofs.Common.{◌≡◌, length}
 use Rattle.std.specs.Io.KnownBytes.{Keeps}
 use Rattle.shell_io.specs.declared.health.Health.TheVariants.{Fine}
-use Rattle.rdbg.specs.Outputs.{output_contents}
-use Rattle.rdbg.proofs.output.Output.hand_on.Given as goal
+use Rattle.shell_io.specs.Outputs.{output_contents}
+use Rattle.shell_io.proofs.output.Output.hand_on.Given as goal
 
 abbrev pub invariant-loop-self : goal.invariant-loop-self
 invariant-loop-self g l =

@@ -1,28 +1,35 @@
-//! The program's output: a writer with a buffer. A write that failed is not tried again, and dropping the output writes nothing.
+//! A writer with a buffer.
 
 ghost use Rattle.std.specs.Prelude.{◌≡◌, ◌<◌, ◌≤◌, ◌++◌, [], length, take, OnOk, IfOk};
 ghost use Rattle.std.specs.Io.{WritesAtMost};
 ghost use Rattle.std.specs.Io.KnownBytes.{Keeps, WriteAppends};
 ghost use Rattle.shell_io.specs.declared.health.Health.TheVariants.{Fine};
 ghost use Rattle.shell_io.specs.Healths.{health_after};
-ghost use Rattle.rdbg.specs.declared.output.TheConstants.{ROOM};
-ghost use Rattle.rdbg.specs.Outputs.{output_contents, output_seen};
+ghost use Rattle.shell_io.specs.declared.output.TheConstants.{ROOM};
+ghost use Rattle.shell_io.specs.Outputs.{output_contents, output_seen};
 
-use shell_io::{FixedBuffer, Health, Noted, Sink, Style, StyledWrite};
+use crate::fixed_buffer::FixedBuffer;
+use crate::health::Health;
+use crate::noted::Noted;
+use crate::streams::Sink;
+use crate::style::{Style, StyledWrite};
 use std::io::{Error, ErrorKind, Result, Write};
 use std::result;
 
 // The bytes that are kept before they are written.
 const ROOM: usize = 8_192;
 
+/// A writer with a buffer of 8,192 bytes, which `flush` writes. A write that failed is not tried again: each further call returns an error.
+/// Dropping the output writes nothing.
 #[derive(Drop)]
-pub(crate) struct Output<W> {
+pub struct Output<W> {
     inner: Noted<W>,
     buffer: FixedBuffer<ROOM>,
 }
 
 impl<W: Write> Output<W> {
-    pub(crate) fn new(inner: W) -> Output<W>
+    /// An output with an empty buffer. It does not allocate.
+    pub fn new(inner: W) -> Output<W>
         ensures inner { result.inner.device ≡ inner }
         ensures empty { result.buffer ≡ [] }
         ensures fine { result.inner.health ≡ Fine }

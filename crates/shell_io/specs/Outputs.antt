@@ -2,7 +2,7 @@
 use Rattle.std.specs.Prelude.{ℕ, List, Option}
 use Rattle.std.specs.Io.KnownBytes.{append_known}
 use Rattle.shell_io.specs.Seen.{Seen}
-use Rattle.rdbg.specs.declared.output.Output.{Output}
+use Rattle.shell_io.specs.declared.output.Output.{Output}
 
 -- the bytes that the writer holds, and then the bytes in the buffer
 abbrev pub output_contents : {W : Type 0} → (W → Option (List ℕ)) → Output W → Option (List ℕ)
