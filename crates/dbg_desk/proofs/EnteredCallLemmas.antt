@@ -18,7 +18,7 @@ use Rattle.dbg_base.specs.Calls.{Order, Query, Call, Give, Back, Ask, call_of}
 use Rattle.dbg_base.specs.ModelStates.{ModelState, IsHaltPlace}
 use Rattle.dbg_base.specs.Journals.{Entry, Given, Journal, LeadsTo, IsDue, AnswersBack, Enters, Makes, IsLegal, counting, effective, last_given}
 use Rattle.dbg_laws.proofs.LegalJournalLemmas.{effective_more, legal_more}
-use Rattle.dbg_desk.specs.Small.{small_call_of, small_said_of}
+use Rattle.dbg_records.specs.Small.{small_call_of, small_said_of}
 use Rattle.dbg_board.specs.declared.glance.Glance.{Glance}
 use Rattle.dbg_board.specs.Pairs.{Begins}
 use Rattle.dbg_command.specs.Tables.{FollowsOrRefuses, AnswersOrRefuses, said_of, reported_of}

@@ -7,8 +7,6 @@ mod KeptCallLemmas
 mod JournalSearchLemmas
 mod SettleLemmas
 mod ScanLemmas
-mod SameAnswerLemmas
-mod SingleCommandLemmas
 pub mod SendableEntryLemmas
 mod Turns
 mod BarredWorkerLemmas

@@ -27,8 +27,8 @@ use Rattle.dbg_session.proofs.session.Stacked.TheSendSync as stacked_sent
 use Rattle.dbg_session.specs.contracts.session.Stacked as stacked
 use Rattle.dbg_session.specs.contracts.session.Session as session
 use Rattle.dbg_session.specs.contracts.session.Session.TheInside as session_inside
-use Rattle.dbg_desk.proofs.small_said.SmallSaid.TheSendSync as small_said_sent
-use Rattle.dbg_desk.specs.contracts.small_call.SmallCall as small_call
+use Rattle.dbg_records.proofs.small_said.SmallSaid.TheSendSync as small_said_sent
+use Rattle.dbg_records.specs.contracts.small_call.SmallCall as small_call
 use Rattle.dbg_board.proofs.board.Board.TheSendSync as board_sent
 use Rattle.dbg_board.proofs.publisher.Publisher.TheSendSync as publisher_sent
 use Rattle.dbg_board.proofs.seat_view.SeatView.TheSendSync as view_sent

@@ -12,7 +12,7 @@ use Rattle.dbg_base.specs.Calls.{Call, call_of}
 use Rattle.dbg_base.specs.ModelStates.{ModelState, IsHaltPlace}
 use Rattle.dbg_base.specs.Journals as model
 use Rattle.dbg_base.specs.Journals.{Journal, LeadsTo, IsLegal, effective}
-use Rattle.dbg_desk.specs.Small.{small_call_of, small_said_of}
+use Rattle.dbg_records.specs.Small.{small_call_of, small_said_of}
 use Rattle.dbg_board.specs.declared.glance.Glance.{Glance}
 use Rattle.dbg_board.specs.Boards.{BoardId, Listing}
 use Rattle.dbg_board.specs.Pairs.{Begins}

@@ -1,12 +1,11 @@
 //! Calls, as the journal and the seats record them.
 
 ghost use Rattle.std.specs.Prelude.{◌≡◌, true};
-ghost use Rattle.dbg_desk.specs.Flat.{is_flat_call};
-ghost use Rattle.dbg_desk.specs.Small.{is_flat_small};
+ghost use Rattle.dbg_records.specs.Flat.{is_flat_call};
+ghost use Rattle.dbg_records.specs.Small.{is_flat_small};
 
-use crate::small_call::SmallCall;
-use crate::small_said::SmallSaid;
 use dbg_base::{Call, Refusal, Said};
+use dbg_records::{SmallCall, SmallSaid};
 
 /// A call that was entered: the seat that made it, the call, and its answer.
 #[derive(Debug)]

@@ -14,18 +14,13 @@ mod copies;
 mod crews;
 mod desk;
 mod entry;
-mod flat_call;
 mod locked;
 mod log;
 mod opening;
 mod rooms;
 mod run;
-mod same_call;
-mod same_expr;
 mod seat;
 mod settling;
-mod small_call;
-mod small_said;
 mod worker;
 
 pub use crews::{CrewFault, crew};

@@ -6,10 +6,10 @@ ghost use Rattle.dbg_base.specs.declared.refusal.Refusal.TheVariants.{Memory};
 ghost use Rattle.dbg_base.specs.Copies.{counts_in};
 ghost use Rattle.proc_tree.specs.Programs.{program_of};
 ghost use Rattle.dbg_command.specs.Tables.{said_of};
-ghost use Rattle.dbg_desk.specs.Small.{small_said_of};
+ghost use Rattle.dbg_records.specs.Small.{small_said_of};
 
-use crate::small_said::SmallSaid;
 use dbg_base::{Done, Refusal, Reply, Said};
+use dbg_records::SmallSaid;
 use proc_tree::Program;
 use std::alloc::Global;
 use std::mem;

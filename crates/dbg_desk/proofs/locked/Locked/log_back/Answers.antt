@@ -9,7 +9,7 @@ use Rattle.dbg_base.specs.Journals.{Given, AnswersBack, effective, last_given}
 use Rattle.dbg_board.specs.declared.glance.Glance.{Glance}
 use Rattle.dbg_board.specs.Boards.{Listing}
 use Rattle.dbg_command.specs.Tables.{said_of}
-use Rattle.dbg_desk.specs.Small.{small_call_of, small_said_of}
+use Rattle.dbg_records.specs.Small.{small_call_of, small_said_of}
 use Rattle.dbg_desk.specs.declared.entry.Entry as entry
 use Rattle.dbg_desk.specs.declared.entry.RecordedCall as own
 use Rattle.dbg_desk.specs.Desks.{entry_of, own_of}

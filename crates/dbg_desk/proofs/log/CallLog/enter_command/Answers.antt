@@ -1,6 +1,6 @@
 use Rattle.std.proofs.Common.{ap, ◌∙◌}
 use Rattle.dbg_base.specs.Calls.{call_of}
-use Rattle.dbg_desk.specs.Small.{small_call_of, small_said_of}
+use Rattle.dbg_records.specs.Small.{small_call_of, small_said_of}
 use Rattle.dbg_desk.proofs.log.CallLog.enter_command.Goals as goal
 
 pub returns-clause-journal : goal.returns-clause-journal

@@ -3,7 +3,7 @@
 ghost use Rattle.std.specs.Prelude.{◌≡◌, ◌++◌, true, IfOk};
 ghost use Rattle.dbg_base.specs.Calls.{Give, order_of, plans_of, plans_in, call_of};
 ghost use Rattle.dbg_base.specs.Copies.{IsCopy};
-ghost use Rattle.dbg_desk.specs.Flat.{are_ones, is_flat_call};
+ghost use Rattle.dbg_records.specs.Flat.{are_ones, is_flat_call};
 
 use dbg_base::{Call, Plan, Refusal};
 

@@ -1,9 +1,9 @@
 use Rattle.std.proofs.Common.{◌≡◌, ◌<◌, ◌++◌, true, List, length, get_or, ap, ◌∙◌, arith, take_all}
 use Rattle.dbg_base.specs.declared.call.Plan as plan
 use Rattle.dbg_base.specs.Calls.{Order, plans_of, plans_in}
-use Rattle.dbg_desk.specs.Flat.{is_one, are_ones, one_order}
-use Rattle.dbg_desk.proofs.SingleCommandLemmas.{plans_push, ones_push, plans_more, one_if}
-use Rattle.dbg_desk.proofs.flat_call.+ones.Goals as goal
+use Rattle.dbg_records.specs.Flat.{is_one, are_ones, one_order}
+use Rattle.dbg_records.proofs.SingleCommandLemmas.{plans_push, ones_push, plans_more, one_if}
+use Rattle.dbg_records.proofs.flat_call.+ones.Goals as goal
 
 pub add_copies-loop-plan-preserved : goal.add_copies-loop-plan-preserved
 add_copies-loop-plan-preserved t c =

@@ -3,14 +3,14 @@
 ghost use Rattle.std.specs.Prelude.{◌≡◌, ◌↔◌, IsTrue, IfSome};
 ghost use Rattle.dbg_base.specs.declared.said.Said.TheVariants.{Accepted, Answered};
 ghost use Rattle.dbg_base.specs.Copies.{IsCopy};
-ghost use Rattle.dbg_desk.specs.Small.{accepted, small_said_of};
+ghost use Rattle.dbg_records.specs.Small.{accepted, small_said_of};
 
 use dbg_base::{Answer, Choice, Cut, Done, Head, Pid, Refusal, Reply, Said, Sequence};
 use std::alloc::Global;
 
 /// An answer in 32 bytes: frequent answers are stored in place, others in a box.
 #[derive(Debug, Drop)]
-pub(crate) enum SmallSaid {
+pub enum SmallSaid {
     /// The command was accepted, no breakpoint halts, and the process made this command.
     Played(Pid, Choice),
     /// The same, and the process undid this command.
@@ -75,7 +75,7 @@ fn small_answer(alloc: Global, answer: &Answer) -> Result<SmallSaid, Refusal>
 
 impl SmallSaid {
     /// The reply to an accepted command, or None if it needs a box. It does not allocate.
-    pub(crate) fn of_reply(reply: &Reply) -> Option<SmallSaid>
+    pub fn of_reply(reply: &Reply) -> Option<SmallSaid>
         ensures { IfSome result (λ small. small_said_of small ≡ Accepted reply.now) }
     {
         match (&reply.done, reply.halted) {
@@ -87,7 +87,7 @@ impl SmallSaid {
     }
 
     /// This answer. Error: `Memory`, if an allocation fails.
-    pub(crate) fn new(alloc: Global, said: &Said) -> Result<SmallSaid, Refusal>
+    pub fn new(alloc: Global, said: &Said) -> Result<SmallSaid, Refusal>
         ensures { IsCopy result (λ made. small_said_of made ≡ said.now) }
     {
         match said {
@@ -101,7 +101,7 @@ impl SmallSaid {
     }
 
     /// A copy of the answer. Error: `Memory`, if an allocation fails.
-    pub(crate) fn said(&self) -> Result<Said, Refusal>
+    pub fn said(&self) -> Result<Said, Refusal>
         ensures { IsCopy result (λ made. made ≡ small_said_of self.now) }
     {
         match self {
@@ -124,7 +124,7 @@ impl SmallSaid {
     }
 
     /// Whether it is this answer. It does not allocate.
-    pub(crate) fn is_said(&self, said: &Said) -> bool
+    pub fn is_said(&self, said: &Said) -> bool
         ensures { IsTrue result ↔ (small_said_of self.now ≡ said.now) }
     {
         match (self, said) {

@@ -8,11 +8,11 @@ use Rattle.dbg_base.specs.declared.said.Answer.TheVariants as answer
 use Rattle.dbg_base.specs.declared.call.Call as call
 use Rattle.dbg_base.specs.Calls as model
 use Rattle.dbg_base.specs.Calls.{Call, Give, Back, Ask, One, call_of}
-use Rattle.dbg_desk.specs.declared.small_call.SmallCall.{SmallCall}
-use Rattle.dbg_desk.specs.declared.small_call.SmallCall.TheVariants as calls
-use Rattle.dbg_desk.specs.declared.small_said.SmallSaid.{SmallSaid}
-use Rattle.dbg_desk.specs.declared.small_said.SmallSaid.TheVariants as saids
-use Rattle.dbg_desk.specs.Flat.{is_flat_call}
+use Rattle.dbg_records.specs.declared.small_call.SmallCall.{SmallCall}
+use Rattle.dbg_records.specs.declared.small_call.SmallCall.TheVariants as calls
+use Rattle.dbg_records.specs.declared.small_said.SmallSaid.{SmallSaid}
+use Rattle.dbg_records.specs.declared.small_said.SmallSaid.TheVariants as saids
+use Rattle.dbg_records.specs.Flat.{is_flat_call}
 
 -- the call of a small record
 abbrev pub small_call_of : SmallCall → Call

@@ -11,7 +11,7 @@ use Rattle.dbg_base.specs.declared.call.Plan.TheViews.{out-Plan, roll-Plan, roll
 use Rattle.std.specs.List.{flat_map}
 use Rattle.dbg_base.specs.Calls as model
 use Rattle.dbg_base.specs.Calls.{Order, order_of, plans_of, plans_in}
-use Rattle.dbg_desk.specs.Flat.{is_one, are_ones, one_order}
+use Rattle.dbg_records.specs.Flat.{is_one, are_ones, one_order}
 
 pub plans_push : (xs : List plan.Plan) (x : plan.Plan) → plans_in (xs ++ x ∷ []) ≡ plans_in xs ++ plans_of (order_of x)
 plans_push xs x =

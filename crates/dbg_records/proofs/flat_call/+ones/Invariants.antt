@@ -1,7 +1,7 @@
 use Rattle.std.proofs.Common.{◌≡◌, ◌++◌, true, take}
 use Rattle.dbg_base.specs.Calls.{plans_in}
-use Rattle.dbg_desk.specs.Flat.{are_ones}
-use Rattle.dbg_desk.proofs.flat_call.+ones.Given as goal
+use Rattle.dbg_records.specs.Flat.{are_ones}
+use Rattle.dbg_records.proofs.flat_call.+ones.Given as goal
 
 abbrev pub invariant-add_copies-loop-plan : goal.invariant-add_copies-loop-plan
 invariant-add_copies-loop-plan l =

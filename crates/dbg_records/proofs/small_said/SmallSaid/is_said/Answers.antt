@@ -1,8 +1,8 @@
 use Rattle.std.proofs.Common.{◌≡◌, ◌↔◌, Bool, IsTrue, rules, subst, sym}
 use Rattle.std.proofs.lemmas.Bool.Decides.{Decides-int_eq}
 use Rattle.std.proofs.lemmas.Slice.Eq.{slice_eq-Decides}
-use Rattle.dbg_desk.proofs.SameAnswerLemmas.{same_said}
-use Rattle.dbg_desk.proofs.small_said.SmallSaid.is_said.Goals as goal
+use Rattle.dbg_records.proofs.SameAnswerLemmas.{same_said}
+use Rattle.dbg_records.proofs.small_said.SmallSaid.is_said.Goals as goal
 
 pub returns-in-Values-Answered-Values : goal.returns-in-Values-Answered-Values
 returns-in-Values-Answered-Values c =

@@ -4,17 +4,17 @@ ghost use Rattle.std.specs.Prelude.{◌≡◌, ◌↔◌, IsTrue, IfOk, true, fa
 ghost use Rattle.std.specs.Option.{option_map};
 ghost use Rattle.dbg_base.specs.Calls.{Give, Ask, order_of, query_of, call_of};
 ghost use Rattle.dbg_base.specs.Copies.{IsCopy};
-ghost use Rattle.dbg_desk.specs.Flat.{is_flat_call};
-ghost use Rattle.dbg_desk.specs.Small.{small_call_of, is_flat_small, is_apart, HasAgain, IsGiven};
+ghost use Rattle.dbg_records.specs.Flat.{is_flat_call};
+ghost use Rattle.dbg_records.specs.Small.{small_call_of, is_flat_small, is_apart, HasAgain, IsGiven};
 
 use crate::flat_call::call_that_gives;
 use crate::same_call::is_same_call;
 use dbg_base::{Call, Choice, Pid, Plan, Query, Refusal};
 use std::alloc::Global;
 
-/// A call in 16 bytes: frequent calls are stored in place, others in a box.
+/// A call in 16 bytes: frequent calls are stored in place, others in a box. The cases are those of `Call`, `Plan` and `Query`.
 #[derive(Debug, Drop)]
-pub(crate) enum SmallCall {
+pub enum SmallCall {
     Step(Pid, Choice),
     Next(Pid),
     Undo(Pid),
@@ -33,9 +33,9 @@ const _: () = prove!(size_of::<SmallCall>() <= 16);
 
 /// A call that gives a command, twice: in few bytes, and once more if those are a box.
 #[derive(Debug, Drop)]
-pub(crate) struct GivenCall {
-    pub(crate) small: SmallCall,
-    pub(crate) again: Option<Box<Call>>,
+pub struct GivenCall {
+    pub small: SmallCall,
+    pub again: Option<Box<Call>>,
 }
 
 // The same for a call that is stored in a box.
@@ -60,7 +60,7 @@ fn give_in_place(small: SmallCall) -> GivenCall
 
 impl GivenCall {
     /// The call that gives this command, without a batch within a batch. Error: `Memory`, if an allocation fails.
-    pub(crate) fn new(alloc: Global, plan: &Plan) -> Result<GivenCall, Refusal>
+    pub fn new(alloc: Global, plan: &Plan) -> Result<GivenCall, Refusal>
         ensures gives { IsCopy result (λ made. IsGiven (Give (order_of plan.now)) made.small (option_map (λ call. call.value) made.again)) }
     {
         match plan {
@@ -76,7 +76,7 @@ impl GivenCall {
 
 impl SmallCall {
     /// The call that asks this query. Error: `Memory`, if an allocation fails.
-    pub(crate) fn ask(alloc: Global, query: &Query) -> Result<SmallCall, Refusal>
+    pub fn ask(alloc: Global, query: &Query) -> Result<SmallCall, Refusal>
         ensures copies { IsCopy result (λ made. small_call_of made ≡ Ask (query_of query.now)) }
         ensures flat { IfOk result (λ made. is_flat_small made ≡ true) }
     {
@@ -94,7 +94,7 @@ impl SmallCall {
 
     /// The call. `again` is a copy of it if it is stored in a box. It does not allocate.
     #[inline(never)]
-    pub(crate) fn in_full(&self, again: Option<Box<Call>>) -> Call
+    pub fn in_full(&self, again: Option<Box<Call>>) -> Call
         requires { HasAgain self.now (option_map (λ call. call.value) again) }
         ensures call { call_of result ≡ small_call_of self.now }
         ensures flat { is_flat_call result ≡ true }
@@ -129,7 +129,7 @@ impl SmallCall {
     }
 
     /// A copy of the call. Error: `Memory`, if an allocation fails.
-    pub(crate) fn call(&self) -> Result<Call, Refusal>
+    pub fn call(&self) -> Result<Call, Refusal>
         ensures { IsCopy result (λ made. call_of made ≡ small_call_of self.now) }
     {
         match self {
@@ -139,7 +139,7 @@ impl SmallCall {
     }
 
     /// Whether it is this call. Neither may have a batch within a batch. It does not allocate.
-    pub(crate) fn is_call(&self, call: &Call) -> bool
+    pub fn is_call(&self, call: &Call) -> bool
         requires { (is_flat_small self.now ≡ true) × (is_flat_call call.now ≡ true) }
         ensures { IsTrue result ↔ (small_call_of self.now ≡ call_of call.now) }
     {

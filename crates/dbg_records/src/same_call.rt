@@ -2,7 +2,7 @@
 
 ghost use Rattle.std.specs.Prelude.{◌≡◌, ◌↔◌, IsTrue, true, map};
 ghost use Rattle.dbg_base.specs.Calls.{conjunct_of, query_of, order_of, plans_in, call_of};
-ghost use Rattle.dbg_desk.specs.Flat.{is_one, are_ones, is_flat, is_flat_call};
+ghost use Rattle.dbg_records.specs.Flat.{is_one, are_ones, is_flat, is_flat_call};
 
 use crate::same_expr::is_same_expr;
 use dbg_base::{Call, Conjunct, Plan, Query};

@@ -1,0 +1,2 @@
+mod SameAnswerLemmas
+mod SingleCommandLemmas
