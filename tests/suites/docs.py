@@ -5,7 +5,8 @@ have the same replies. A block ```rdbg-refused is a program that is refused. A b
 after the other, of what `talk` prints for that session, or `check --explain` for that program.
 The meanings of the refusals are those of the source of `rdbg --help`, word by word. A file of a crate that a document names exists. The
 calls with a condition on their caller are those of the sources (--update writes them anew). The lemmas that docs/proofs.md names exist, and
-the worked change of CONTRIBUTING.md names what is in its files. The documents stay below a number of words.
+the worked change of CONTRIBUTING.md names what is in its files. crates.txt lists for a crate only what its files name. The documents stay
+below a number of words.
 """
 import re
 from typing import NamedTuple
@@ -208,6 +209,18 @@ def misplaced_names(text):
         yield from (f"{file} has no {name}" for name in re.findall(r"`([^`]+)`", names) if name not in code)
 
 
+def unused_libraries():
+    """The libraries that crates.txt lists for a crate which does not name them. `rt ci` sums up the sources of a library once for each way
+    that leads to it."""
+    for line in (TOP / "crates.txt").read_text(encoding="utf-8").splitlines():
+        crate, begin, libraries = line.partition(":")
+        if not begin or line.startswith("#"):
+            continue
+        files = [file for part in ("src", "specs", "proofs") for file in (TOP / "crates" / crate / part).glob("**/*.*t")]
+        code = "\n".join(file.read_text(encoding="utf-8") for file in files)
+        yield from (f"{crate} does not use {library}" for library in libraries.split() if not re.search(rf"\b{library}\b", code))
+
+
 def check_words(suite):
     """A limit on the words of the documents: what is added later replaces something."""
     for limit, patterns in WORDS:
@@ -227,4 +240,5 @@ def run(suite):
     check_conditions(suite)
     suite.same("names in docs/proofs.md that do not exist", "\n".join(unknown_names((TOP / "docs/proofs.md").read_text(encoding="utf-8"))), "")
     suite.same("names of the worked change that are elsewhere", "\n".join(misplaced_names((TOP / "CONTRIBUTING.md").read_text(encoding="utf-8"))), "")
+    suite.same("libraries in crates.txt that are not used", "\n".join(unused_libraries()), "")
     check_words(suite)
