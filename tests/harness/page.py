@@ -84,16 +84,34 @@ def state_lines(count):
     return sorted({round(count * (at + 1) / STATE_LINES) for at in range(STATE_LINES)})
 
 
+def named_processes(parts):
+    """The processes that the parts of a predicate are about: what is not within parentheses."""
+    while "(" in parts:
+        parts = re.sub(r"\([^()]*\)", " ", parts)
+    return parts.split()
+
+
 class Expected:
     """What the page of a session must show, by the answers of the program."""
 
     def __init__(self, session):
-        self.lines, self.processes, self.breakpoints = session.lines, session.processes, session.breakpoints
+        self.lines, self.calls, self.processes, self.breakpoints = session.lines, session.calls, session.processes, session.breakpoints
         self.state_lines = state_lines(len(self.lines))
         self.channels = [(one, other) for one in self.processes for other in self.processes if one != other]
         questions = [f"{word} {name}" for name in self.processes for word in ("place", "vars", "clock")]
         questions += [f"chan {one} {other}" for one, other in self.channels] + [f"cut {name}" for name in self.breakpoints]
         self.replies = session.replies({n: questions for n in self.state_lines})
+
+    @property
+    def rows(self):
+        """The processes from the top down: those of the breakpoint that halts the session first, in its order, and then the others."""
+        first = []
+        for n in self.halts[:1]:
+            name = self.replies[n].rpartition(" ")[2]
+            orders = [order for at, line in self.calls.items() if at <= n for order in line.split(" ; ")]
+            parts = [re.search(rf"\bbreak {name} (.*)", order) for order in orders]
+            first = named_processes([found[1] for found in parts if found][-1])
+        return first + [name for name in self.processes if name not in first]
 
     def cut_counts(self, n, cut):
         """What the page shows of the events in a cut, for each process."""

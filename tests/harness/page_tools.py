@@ -12,12 +12,13 @@ LATER = "new Promise(done => setTimeout(done, 400))"  # resolves once the addres
 def run_checks(page, expected, session):
     check_address(page, expected)
     check_cut_states(page, expected, session)
+    check_causes(page, expected, session)
     check_search(page, expected)
     check_fit(page)
     check_hidden(page, expected)
     check_pointer(page)
     check_selection(page)
-    check_saved_drawing(page)
+    check_saved_drawing(page, expected)
     check_program(page, session)
     check_contrast(page)
 
@@ -78,6 +79,14 @@ def values_in_cut(session, n, name, processes):
     return {process: reply.partition(f"vars {process}")[2].strip() for process, reply in zip(processes, replies[len(calls) + 1:])}
 
 
+def without_counts(row):
+    """The variables of a process in the cut, without the counts that its part names. All of these have to be there."""
+    counts = re.findall(r"((?:sent|got)\(\w+\))=\d+", row[3])
+    if sorted(set(counts)) != sorted(set(re.findall(r"(?:sent|got)\(\w+\)", row[1]))):
+        return f"the counts {counts} for {row[1]}"
+    return re.sub(r" ?(?:sent|got)\(\w+\)=\d+", "", row[3])
+
+
 def check_cut_states(page, expected, session):
     """At the first and the last halt, and with nothing chosen, the page shows the state in the cut as the program reports it."""
     for n in dict.fromkeys(expected.halts[:1] + expected.halts[-1:]):
@@ -91,9 +100,42 @@ def check_cut_states(page, expected, session):
         since, crossing = talk_of_cut(session, n, name)
         page.expect("since when the parts hold", {process: row[2] for process, row in rows.items()}, {**dict.fromkeys(rows, ""), **since})
         values = values_in_cut(session, n, name, expected.processes)
-        page.expect("the variables in the cut", {process: row[3] for process, row in rows.items()}, values)
+        page.expect("the variables in the cut", {process: without_counts(row) for process, row in rows.items()}, values)
         if not any("more" in text for text in crossing.values()):
             page.expect("the messages that cross the cut", dict(page.table(CROSSING)), crossing)
+
+
+# -- Causes -------------------------------------------------------------------------------------------------------------------------------
+
+CHOSEN_EVENTS = 8  # at most, after the last line
+
+
+def check_causes(page, expected, session):
+    """A chosen event has as many events before it as its clock counts, and the command shown for it undoes it and the events that it names."""
+    last, made = len(expected.lines), {name: expected.events_made(len(expected.lines), name) for name in expected.processes}
+    events = [(name, n) for name in expected.processes for n in sorted({1, made[name] // 2, made[name]}) if n > 0]
+    for name, n in events[::-(-len(events) // CHOSEN_EVENTS) or 1]:
+        page.browser.evaluate(f"location.hash = '{last}:{name}:{n}'")
+        page.at = page.look()
+        before = sum(int(count) for _, count in page.table("its clock")) - 1
+        undoing = page.browser.evaluate("(part => part && [part.textContent, part.querySelector('code').textContent])(document.querySelector('.undoing'))")
+        if not undoing:
+            page.fault(f"event {n} of {name} has no command that undoes it")
+            continue
+        spans = re.findall(r"(\w+) (\d+)(?:\u2013(\d+))?(?=[,:])", undoing[0].partition(" with ")[2])
+        gone = {name: 1}
+        for process, begin, end in spans:
+            gone[process] = gone.get(process, 0) + int(end or begin) - int(begin) + 1
+            page.expect(f"the last event of {process} that depends on event {n} of {name}", int(end or begin), made[process])
+        after = sum(gone.values()) - 1
+        wanted = f"after {before} of {sum(made.values()) - 1} other events; {after} {'comes' if after == 1 else 'come'} after it"
+        if wanted not in page.at["notes"]:
+            page.fault(f"event {n} of {name} is not {wanted!r}: {page.at['notes']}")
+        questions = [f"1 place {process}" for process in expected.processes]
+        replies = session.run([*session.calls.values(), f"1 {undoing[1]}", *questions])[-len(questions):]
+        places = {process: int(reply.split()[2]) for process, reply in zip(expected.processes, replies)}
+        page.expect(f"the events after {undoing[1]}", {process: made[process] - gone.get(process, 0) for process in made}, places)
+    page.press("Escape")
 
 
 # -- Search, size, and what is hidden -----------------------------------------------------------------------------------------------------
@@ -231,8 +273,8 @@ def check_selection(page):
 
 # -- Copies -------------------------------------------------------------------------------------------------------------------------------
 
-def check_saved_drawing(page):
-    """The saved drawing is an SVG of its own, with as many events as the page draws."""
+def check_saved_drawing(page, expected):
+    """The saved drawing is an SVG of its own, with all events, also those that are not visible."""
     page.press("End")
     page.browser.evaluate("window.saved = null, URL.createObjectURL = blob => (window.saved = blob, 'data:,')")
     page.browser.evaluate("HTMLAnchorElement.prototype.click = function () { window.savedAs = this.download; }")
@@ -241,8 +283,8 @@ def check_saved_drawing(page):
       const made = new DOMParser().parseFromString(text, 'image/svg+xml');
       return [made.documentElement.tagName, made.querySelectorAll('ellipse').length / 2, /var\\(/.test(text), savedAs];
     })""")
-    drawn = page.browser.evaluate("document.querySelectorAll('.event:not(.gone)').length")
-    page.expect("the saved drawing", found[:3], ["svg", drawn, False])
+    events = sum(int(expected.answer(len(expected.lines), f"place {name}").split()[-1]) for name in expected.processes)
+    page.expect("the saved drawing", found[:3], ["svg", events, False])
     if not re.fullmatch(r"[\w.-]+-line-\d+\.svg", found[3]):
         page.fault(f"the name of the saved drawing is {found[3]}")
 

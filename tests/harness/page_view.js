@@ -39,7 +39,7 @@ new Promise(done => requestAnimationFrame(() => {
     red: [...find('points').children].filter(button => button.classList.contains('c0')).map(button => button.chooses.point),
     cutLooks: all(svg, '.cuts .cut').map(item => getComputedStyle(item.children[1])).map(({stroke, strokeDasharray}) => stroke + ' ' + strokeDasharray),
     play: text(find('play')),
-    isLatestSeen: marks.some(seen), isChosenSeen: chosen.some(seen),
+    holding: all(svg, '.event.holding').filter(seen).length, isLatestSeen: marks.some(seen), isChosenSeen: chosen.some(seen),
     outside: [...parts.filter(part => !part.matches(':empty') && !inside(part, view)).map(part => part.id || part.tagName),
       ...wide.map(part => part.id + ' (in width)'), ...root.scrollWidth > innerWidth || root.scrollHeight > innerHeight ? ['the page'] : []],
     focus: named(focus), isFocusSeen: focus !== document.body && ringed(focus) && uncovered(focus),

@@ -4,7 +4,8 @@ Each page is opened in two sizes, light and dark. In each of these four passes a
 Down, Tab, Enter, Escape, Shift with arrow keys, `+` and `-` are pressed; in the first pass also space, which plays. A page fails if it has an
 error or writes to the console, if a part of it does not fit into the window, if the focus is not visible, or if it does not show what the
 program answers: the reply of each line; after up to 25 lines the variables, the counts of events and the messages on their way, and in the
-first pass the cut of each breakpoint; after the last line the cuts, and the variables and the clock of each process.
+first pass the cut of each breakpoint; after the last line the cuts, and the variables and the clock of each process. The page of a session
+that halts opens with all events that violate in view.
 
 In two further passes the tools of the page are used: addresses, the search, the fit, what is hidden, zoom and drags, a selection of text,
 and the saved drawing. The state in the cut at the first and the last halt is compared with `goto` and `vars`, and with what an interactive
@@ -24,7 +25,7 @@ from harness.browser import needs_browser, running_browser
 from harness.page import HARNESS, Expected, Page
 from harness.page_checks import (
     check_breakpoints, check_enter, check_events, check_halts, check_jumps, check_line, check_lost_focus, check_play, check_play_to_end,
-    check_roving, check_tab, check_widths)
+    check_roving, check_tab, check_widths, missing_at_opening)
 from harness.page_tools import CONTRAST, check_contrast, run_checks
 from harness.session import Session, draw, short_name
 
@@ -38,6 +39,7 @@ SHOWN_FAULTS = 12
 
 def check_pass(page, expected, key, is_first):
     last = len(expected.lines)
+    page.expect("violating events that are not in the first view", missing_at_opening(page, expected), 0)
     check_halts(page, expected)
     if not page.tab_to("lines"):
         return
@@ -65,8 +67,10 @@ def check_pass(page, expected, key, is_first):
         check_play_to_end(page, expected)
 
 
-def check_narrow(page, expected):
+def check_narrow(page, expected, first_views):
     """On a telephone, all parts fit into the width, and the drawing and the details have room."""
+    if expected.halts:
+        first_views.append(missing_at_opening(page, expected) == 0)
     check_halts(page, expected)
     for key in ("Home", "PageDown", "End"):
         page.press(key)
@@ -83,7 +87,7 @@ def shortened(faults):
     return "\n".join(faults[:SHOWN_FAULTS] + ([f"and {more} more"] if more > 0 else []))
 
 
-def page_problem(suite, browser, file, page_file):
+def page_problem(suite, browser, file, page_file, first_views):
     """What is wrong with the page of a session."""
     faults, grounds = [], {}
     session = Session(suite, file)
@@ -103,7 +107,7 @@ def page_problem(suite, browser, file, page_file):
         attempt(width, height, mode, lambda page: check_pass(page, expected, key, is_first=key == PASSES[0][3]))
     for width, height, mode in TOOL_PASSES:
         attempt(width, height, mode, lambda page: run_checks(page, expected, session))
-    attempt(*NARROW, lambda page: check_narrow(page, expected))
+    attempt(*NARROW, lambda page: check_narrow(page, expected, first_views))
     if grounds["light"] == grounds["dark"]:
         faults.append("light and dark have the same background")
     return shortened(faults)
@@ -232,7 +236,11 @@ def run(suite):
         if suite.options.large:
             suite.attempt(f"a page of {LARGE} lines", large_problem, suite, browser, room)
         else:
+            first_views = []
             for file in files:
-                suite.attempt(short_name(file), page_problem, suite, browser, file, room / "page.html")
+                suite.attempt(short_name(file), page_problem, suite, browser, file, room / "page.html", first_views)
+            seen, rest = sum(first_views), len(first_views) - sum(first_views)
+            problem = f"they are in that of {seen}, and not in that of {rest}" if 9 * rest > seen else ""
+            suite.case("on a telephone, the violating events are in the first view of nine in ten pages", problem)
             suite.attempt("a page with odd bytes", odd_problem, suite, browser, room)
             suite.attempt("a page without scripts, in forced colours, and in print", bare_problem, suite, browser, room)

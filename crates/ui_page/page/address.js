@@ -26,7 +26,7 @@ function shownTitle() {
   const line = place === 0 ? 'start' : 'line ' + place;
   return [sessionName(), line, ...state.halting ? ['halted ' + state.halting] : []].join(', ');
 }
-// The address follows a moment later, because browsers limit how often it may change.
+// The address follows a moment later, because browsers limit how often it may change. Back leads to where a jump began.
 let addressWaits = 0;
 function noteAddress() {
   document.title = shownTitle();
@@ -35,8 +35,9 @@ function noteAddress() {
 }
 function writeAddress() {
   if (location.hash === addressEnd()) return;
+  const isJump = location.hash && !playing && Math.abs(place - parseInt(location.hash.slice(1))) > 1;
   try {
-    history.replaceState(null, '', addressEnd());
+    history[isJump ? 'pushState' : 'replaceState'](null, '', addressEnd());
   } catch {
     // The browser lets this page have no address of its own.
   }
@@ -56,20 +57,22 @@ function copySelected(text) {
   field.remove();
   return isCopied;
 }
-async function copyLink() {
-  const link = location.href.replace(/#.*/, '') + addressEnd(), button = find('copy');
-  writeAddress();
+async function copyText(text, button) {
   let isCopied = true;
   try {
-    await navigator.clipboard.writeText(link);
+    await navigator.clipboard.writeText(text);
   } catch {
-    isCopied = copySelected(link);
+    isCopied = copySelected(text);
     button.focus();
   }
   confirmIn(button, isCopied ? 'copied' : 'not copied');
 }
+function copyLink() {
+  writeAddress();
+  copyText(location.href.replace(/#.*/, '') + addressEnd(), find('copy'));
+}
 
-// The drawing as it is, as a file of its own: each shape with the look that it has here.
+// The whole drawing as a file of its own: each shape with the look that it has here.
 const LOOKS = ['fill', 'fill-opacity', 'stroke', 'stroke-width', 'stroke-dasharray', 'stroke-linejoin', 'opacity', 'color', 'font-family',
   'font-size', 'font-weight', 'text-anchor', 'paint-order'];
 function copyLooks(from, to) {
@@ -91,7 +94,9 @@ function drawingFile() {
 }
 function save() {
   const link = node('a', '', {download: sessionName().replace(/[^\w.-]+/g, '_') + '-line-' + place + '.svg'});
+  drawWhole(true);
   link.href = URL.createObjectURL(new Blob([drawingFile()], {type: 'image/svg+xml'}));
+  drawWhole(false);
   link.click();
   setTimeout(() => URL.revokeObjectURL(link.href), 10000);
   confirmIn(find('save'), 'saved');

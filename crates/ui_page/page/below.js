@@ -31,6 +31,7 @@ function eventDetails({p, n}) {
   }
   if (!isMade) return event.sets.length > 0 || event.exchange ? [...details, node('p', 'as it was made before: ' + deeds(event))] : details;
   if (event.exchange) details.push(node('p', exchanged(event)));
+  if (n > 0) details.push(...causeDetails(event));
   const values = valuesAt(event), sets = new Map(event.sets.map(([name, old]) => [name, old]));
   const local = variables.map(([name]) => [name, values.get(name), ...sets.has(name) ? ['was ' + sets.get(name)] : []]);
   const clock = clockAt(event).map((own, q) => [processes[q].name, String(own)]);

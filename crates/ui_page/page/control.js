@@ -32,14 +32,17 @@ function say() {
   const begin = place === 0 ? '' : 'line ' + place + ' of ' + lines.length + ': ';
   update(find('said'), [begin, node('code', text), reply && ' -> ', node('b', node('code', reply))]);
 }
-// Scrolls to what the line changed. After a jump, finds the last change, which may be in an earlier line.
+// Scrolls to what the line changed, and after a jump to a halt, to the cut. After another jump, finds the last change, which may be in an
+// earlier line.
 function toChange() {
   revealLine();
+  const isOpening = shownLine < 0, isJump = Math.abs(place - shownLine) > 1, cut = isJump && halts.includes(place) ? shownCut() : null;
+  shownLine = place;
+  if (cut) return revealCut(cut, isOpening);
   let n = place;
-  if (Math.abs(place - shownLine) > 1) while (n > 1 && states[n].lines === states[n - 1].lines) n--;
+  if (isJump) while (n > 1 && states[n].lines === states[n - 1].lines) n--;
   const made = latest(n).map((n, p) => [p, Math.min(n, sizeOf(p))]).filter(([p, n]) => n > 0 && rowOf[p] >= 0);
   if (made.length > 0) reveal(...made.reduce((one, other) => depthAt(...other) > depthAt(...one) ? other : one));
-  shownLine = place;
 }
 function go(n) {
   const next = Math.max(0, Math.min(lines.length, n));

@@ -39,8 +39,18 @@ function predicateOf({parts}) { return parts.map(([p, text, shown]) => processes
 // A process in a cut: its events in it and in all, its part of the predicate, since when that holds, and its variables.
 function cutRow({cut, parts}, p) {
   const n = cut[p], part = parts.find(([q]) => q === p), made = state.lines[p].done.n;
-  const values = [...valuesAt(madeEvent(p, n))].map(([name, value]) => name + '=' + value).join(' ');
-  return [processes[p].name, n + ' of ' + made, part ? part[2] || part[1] : '', part ? heldSince(part[1], p, n) : '', values];
+  const values = [...valuesAt(madeEvent(p, n)), ...countsOf(part ? part[1] : '', p, n)].map(([name, value]) => name + '=' + value).join(' ');
+  return [unbroken(processes[p].name), n + ' of ' + made, part ? unbroken(part[2] || part[1]) : '', part ? heldSince(part[1], p, n) : '', values];
+}
+// A text that no line break divides, unless it is long.
+function unbroken(text) { return text.length > 20 ? text : node('span', text, {class: 'whole'}); }
+// The counts of messages that a part names, after n events of process p.
+function countsOf(text, p, n) {
+  return [...new Set(text.match(/\b(?:sent|got)\(\w+\)/g) || [])].map(count => {
+    const [way, name] = count.split(/[()]/), other = processes.findIndex(process => process.name === name);
+    const events = way === 'sent' ? shown.channel(p, other).sent : shown.channel(other, p).got;
+    return [count, String(firstWhere(events, event => event.n > n))];
+  });
 }
 const HEADS = ['process', 'events', 'predicate', 'part', 'variables'];
 // The state in the cut. The processes that the predicate names come first.

@@ -9,6 +9,11 @@ function set(element, attributes) {
 }
 // Sets a text if it is another one, so that a selection of it stays.
 function setText(element, text) { if (element.textContent !== String(text)) element.textContent = text; }
+// A name in so many characters, without its middle: names that begin alike often end otherwise.
+function shortName(name, most) {
+  const end = Math.floor((most - 2) / 2);
+  return name.length <= most || end < 1 ? short(name, most) : name.slice(0, most - 2 - end) + '..' + name.slice(-end);
+}
 function short(text, most) { return text.length <= most ? text : most < 4 ? text.slice(0, Math.max(0, most)) : text.slice(0, most - 2) + '..'; }
 shape('desc', svg, {id: 'described'}).textContent = 'Each process is a line from left to right, with its events in the order in which it makes ' +
   'them. Arrows are messages. Events that can be redone are pale. The cut of a breakpoint is a line across the processes. Arrow keys go from ' +
@@ -77,7 +82,7 @@ function placeStop() {
   const wished = chosen && chosen.p !== undefined ? [roving, chosen] : [roving];
   const wanted = [focused, ...wished.map(what => what && itemAt(what)), marks.group.querySelector('.latest'), items[0]];
   const stop = wanted.find(item => items.includes(item));
-  for (const item of items) set(item, {tabindex: item === stop ? 0 : -1});
+  for (const layer of [marks, names]) for (const item of layer.kept.values()) set(item, {tabindex: item === stop ? 0 : -1});
   if (rovesTo) {
     const item = itemAt(rovesTo);
     rovesTo = null;

@@ -8,9 +8,11 @@ function deeds(event) {
   const sets = event.sets.map(([name, , value]) => name + '=' + value);
   return ['command ' + event.k, ...sets, ...way ? [message + processes[other].name] : []].join(', ');
 }
-// The changes of an event, in so many characters: a name is cut before its value is.
-function settings(event, most) {
-  const [first, ...rest] = event.sets.filter(([, old, value]) => old !== value).map(([name, , value]) => [name, '=' + value]);
+// The changes of an event, in so many characters: a name is cut before its value is. What this part of a predicate names comes first.
+function settings(event, most, part) {
+  const changes = event.sets.filter(([, old, value]) => old !== value), named = part.match(/\w+(?:\[\d+\])*/g) || [];
+  changes.sort(([one], [other]) => named.includes(other) - named.includes(one));
+  const [first, ...rest] = changes.map(([name, , value]) => [name, '=' + value]);
   if (!first || most < 4) return '';
   const whole = [first, ...rest].map(parts => parts.join('')).join(' ');
   if (whole.length <= most) return whole;
@@ -36,12 +38,14 @@ function paintNames(part) {
   const {top, y} = part;
   processes.forEach(({name}, p) => {
     if (!isRowSeen(part, p)) return;
-    set(rails.item(p, 'line', ['line'])[0], {x1: 0, x2: wide, y1: y(p), y2: y(p)});
+    const [rail] = rails.item(p, 'line', ['line']);
+    set(rail, {x1: 0, x2: wide, y1: y(p), y2: y(p)});
+    set(rail.parentNode, {'aria-hidden': true});
     const [ground, text, title] = names.item(p, chosen && chosen.p === p && chosen.n === 0 ? 'chosen' : '', ['rect', 'text', 'title'], {p, n: 0});
     set(ground, {y: y(p) - .45 * height, width: margin, height: height + 1});
     set(text, {x: 8, y: y(p) + 4});
     ground.parentNode.isWithin = y(p) - top > .45 * height - 1 && y(p) - top < high - .55 * height + 1;
-    setText(text, short(name, Math.floor((margin - 20) / 7.3)));
+    setText(text, shortName(name, Math.floor((margin - 20) / 7.3)));
     nameItem(title, summary(p, 0));
   });
 }
@@ -70,7 +74,8 @@ function paintChannel(part, channel, cut) {
     const event = sent[n], last = got[n], depth = last ? last.depth : flightDepth(to, event, n - got.length);
     if (event.depth < low && depth > most && ++passing > 20) continue;
     const crosses = cut && isInside(cut, event) && !(last && isInside(cut, last));
-    paintArrow(part, channel, n, event, 'arrow' + (last ? '' : ' flying') + (crosses ? ' crossing ' + colourOf(cut.name) : ''));
+    const middle = chosenEvent(), way = middle && last !== middle ? relation(last || event, middle) : middle ? ' past' : '';
+    paintArrow(part, channel, n, event, 'arrow' + (last ? '' : ' flying') + (crosses ? ' crossing ' + colourOf(cut.name) : '') + way);
   }
 }
 
@@ -78,9 +83,15 @@ function paintChannel(part, channel, cut) {
 function markKinds(p, n, isMade, latestOf, cut) {
   const isLast = cut && cut.cut[p] === n && cut.parts.some(([q]) => q === p);
   return 'event' + (isMade ? '' : ' later') + (latestOf[p] === n ? ' latest' : '') + (chosen && chosen.p === p && chosen.n === n ? ' chosen' : '') +
-    (cut && isMade && !isInside(cut, {p, n}) ? ' beyond' : '') + (isLast ? ' holding ' + colourOf(cut.name) : '');
+    (cut && isMade && !isInside(cut, {p, n}) ? ' beyond' : '') + (isLast ? ' holding ' + colourOf(cut.name) : '') +
+    (isMade ? relation(shown.events[p][n - 1], chosenEvent()) : '');
 }
-function paintMark(part, event, {p, n, depth, room, kinds}) {
+// The part of the predicate for which the cut needs n events of process p; an empty text if it is another event.
+function decidedPart(p, n, cut) {
+  const part = cut && cut.cut[p] === n ? cut.parts.find(([q]) => q === p) : undefined;
+  return part ? part[1] : '';
+}
+function paintMark(part, event, {p, n, depth, room, kinds, decides}) {
   const {x, y} = part, digits = String(n).length, forDigits = radius < 8 ? 0 : 2.9 * digits + 2.5;
   const half = Math.max(radius, Math.min(forDigits, width * .48));
   const [ring, disc, number, sets, title] = marks.item(p + ',' + n, kinds, ['ellipse', 'ellipse', 'text', 'text', 'title'], {p, n});
@@ -92,7 +103,7 @@ function paintMark(part, event, {p, n, depth, room, kinds}) {
   set(ring.parentNode, {transform: 'translate(' + x(depth) + ' ' + y(p) + ')'});
   ring.parentNode.isWithin = isWithin(part, x(depth), y(p));
   setText(number, half * 2 >= 5.8 * digits && radius >= 8 ? n : '');
-  setText(sets, height < 34 ? '' : settings(event, Math.min(60, Math.floor((room * width - 4) / 6.7))));
+  setText(sets, height < 34 ? '' : settings(event, Math.min(60, Math.floor((room * width - 4) / 6.7)), decides));
   nameItem(title, summary(p, n) + ': ' + deeds(event));
 }
 // The labels of events have the room up to the next event.
@@ -100,7 +111,8 @@ function paintRow(part, p, latestOf, cut) {
   const made = shown.events[p], again = later[p].events, {low, most} = part;
   function mark(event, n, depth) {
     const room = n < sizeOf(p) ? depthAt(p, n + 1) - depth : 60;
-    paintMark(part, event, {p, n, depth, room, kinds: markKinds(p, n, n <= made.length, latestOf, cut)});
+    const kinds = markKinds(p, n, n <= made.length, latestOf, cut);
+    paintMark(part, event, {p, n, depth, room, kinds, decides: decidedPart(p, n, cut)});
   }
   for (let i = firstWhere(made, event => event.depth >= low); i < made.length && made[i].depth <= most; i++) mark(made[i], i + 1, made[i].depth);
   for (let i = firstWhere(again, ({depth}) => depth >= low); i < again.length && again[i].depth <= most; i++) {
@@ -113,19 +125,21 @@ function cutName({name, cut}) {
 }
 function paintCut(part, point, i, isTinted) {
   const {seen, top, x, y} = part, {name, cut} = point, near = value => Math.max(-3000, Math.min(wide + 5000, value));
-  const offset = 4 * (i % 5), gap = Math.min(radius + 4.5 + offset, width / 2), drawn = cut.map((n, p) => [n, p]).filter(([, p]) => rowOf[p] >= 0);
+  const offset = 4 * (i % 5), gap = Math.min(radius + 4.5 + offset, width / 2), drawn = order.filter(p => rowOf[p] >= 0).map(p => [cut[p], p]);
   const places = drawn.map(([n, p]) => [near(x(depthAt(p, n)) + (n === 0 ? Math.min(offset, width / 2) : gap)), y(p)]);
   if (places.length === 0 || !isTinted && places.every(([x]) => x < seen + margin) || places.every(([x]) => x > seen + wide)) return;
   const kind = 'cut ' + colourOf(name) + (state.halting === name ? ' halting' : '') + (chosen && chosen.point === name ? ' chosen' : '');
   const [tint, line, title] = cuts.item(name, kind, ['path', 'path', 'title'], {point: name}), first = places[0][0];
-  const path = [[first, top], ...places.flatMap(([x, y]) => [[x, y - .45 * height], [x, y + .55 * height]])].map(place => place.join()).join(' L');
-  const bottom = places[places.length - 1][1] + .55 * height;
-  set(tint, {class: 'tint', d: isTinted ? 'M' + path + ' L-3000,' + bottom + ' L-3000,' + top + ' Z' : ''});
-  set(line, {d: 'M' + path});
+  // Its name is at the top of the window, where the line crosses the first row that is visible.
+  const [crossed] = places.find(([, y]) => y > top) || places[places.length - 1];
+  const path = places.flatMap(([x, y]) => [[x, y - .45 * height], [x, y + .55 * height]]).map(place => place.join()).join(' L');
+  const [begin, bottom] = [places[0][1] - .45 * height, places[places.length - 1][1] + .55 * height];
+  set(tint, {class: 'tint', d: isTinted ? 'M' + path + ' L-3000,' + bottom + ' L-3000,' + begin + ' Z' : ''});
+  set(line, {d: 'M' + first + ',' + Math.min(top, begin) + ' L' + path});
   nameItem(title, cutName(point));
   const [text] = labels.item(name, kind, ['text'], {point: name});
   set(text.parentNode, {'aria-hidden': true});
-  set(text, {x: Math.max(margin + 4, Math.min(wide - 8 * name.length - 8, first + 5 - seen)), y: 12 + 14 * (i % 2)});
+  set(text, {x: Math.max(margin + 4, Math.min(wide - 8 * name.length - 8, crossed + 5 - seen)), y: 12 + 14 * (i % 2)});
   setText(text, short(name, 20));
 }
 

@@ -47,16 +47,23 @@ states.forEach(({points}, n) => {
 function colourOf(name) { return state.halting === name ? 'c0' : colours.get(name); }
 let points = [], shownLine = -1;
 
+// The processes from the top down: those of the breakpoint that halts the session first, in its order, and then the others.
+function violators({points, halting}) {
+  const point = points.find(({name}) => name === halting);
+  return point ? point.parts.map(([p]) => p) : [];
+}
+const order = [...new Set([...halts.length > 0 ? violators(states[halts[0]]) : [], ...processes.keys()])];
 // What is hidden, and the row of each process that is drawn.
 const hidden = {processes: new Set(), points: new Set(), isQuestions: false};
-let rowOf = processes.map((process, p) => p), rowCount = count;
+let rowOf = [], rowCount = 0;
 function placeRows() {
   rowCount = 0;
-  rowOf = processes.map((process, p) => hidden.processes.has(p) ? -1 : rowCount++);
+  for (const p of order) rowOf[p] = hidden.processes.has(p) ? -1 : rowCount++;
 }
+placeRows();
 // The process of the next drawn row, downward or upward; undefined if there is none.
 function nextRow(p, step) {
-  for (let q = p + step; q >= 0 && q < count; q += step) if (rowOf[q] >= 0) return q;
+  for (let i = order.indexOf(p) + step; i >= 0 && i < count; i += step) if (rowOf[order[i]] >= 0) return order[i];
 }
 // A line that only asks has a reply that neither accepts nor refuses a command.
 function isQuestion(n) { return n > 0 && !/^(ok|no)\b|^$/.test(lines[n - 1][1]); }

@@ -5,6 +5,7 @@ mod after_2;
 mod after_3;
 mod after_4;
 mod after_5;
+mod after_6;
 mod before_1;
 
 /// The page before its session.
@@ -13,12 +14,13 @@ pub(super) fn before() -> [&'static str; 1] {
 }
 
 /// The page after its session.
-pub(super) fn after() -> [&'static str; 5] {
+pub(super) fn after() -> [&'static str; 6] {
     [
         after_1::TEXT,
         after_2::TEXT,
         after_3::TEXT,
         after_4::TEXT,
         after_5::TEXT,
+        after_6::TEXT,
     ]
 }

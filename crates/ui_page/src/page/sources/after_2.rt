@@ -50,16 +50,23 @@ states.forEach(({points}, n) => {
 function colourOf(name) { return state.halting === name ? 'c0' : colours.get(name); }
 let points = [], shownLine = -1;
 
+// The processes from the top down: those of the breakpoint that halts the session first, in its order, and then the others.
+function violators({points, halting}) {
+  const point = points.find(({name}) => name === halting);
+  return point ? point.parts.map(([p]) => p) : [];
+}
+const order = [...new Set([...halts.length > 0 ? violators(states[halts[0]]) : [], ...processes.keys()])];
 // What is hidden, and the row of each process that is drawn.
 const hidden = {processes: new Set(), points: new Set(), isQuestions: false};
-let rowOf = processes.map((process, p) => p), rowCount = count;
+let rowOf = [], rowCount = 0;
 function placeRows() {
   rowCount = 0;
-  rowOf = processes.map((process, p) => hidden.processes.has(p) ? -1 : rowCount++);
+  for (const p of order) rowOf[p] = hidden.processes.has(p) ? -1 : rowCount++;
 }
+placeRows();
 // The process of the next drawn row, downward or upward; undefined if there is none.
 function nextRow(p, step) {
-  for (let q = p + step; q >= 0 && q < count; q += step) if (rowOf[q] >= 0) return q;
+  for (let i = order.indexOf(p) + step; i >= 0 && i < count; i += step) if (rowOf[order[i]] >= 0) return order[i];
 }
 // A line that only asks has a reply that neither accepts nor refuses a command.
 function isQuestion(n) { return n > 0 && !/^(ok|no)\b|^$/.test(lines[n - 1][1]); }
@@ -117,6 +124,11 @@ function set(element, attributes) {
 }
 // Sets a text if it is another one, so that a selection of it stays.
 function setText(element, text) { if (element.textContent !== String(text)) element.textContent = text; }
+// A name in so many characters, without its middle: names that begin alike often end otherwise.
+function shortName(name, most) {
+  const end = Math.floor((most - 2) / 2);
+  return name.length <= most || end < 1 ? short(name, most) : name.slice(0, most - 2 - end) + '..' + name.slice(-end);
+}
 function short(text, most) { return text.length <= most ? text : most < 4 ? text.slice(0, Math.max(0, most)) : text.slice(0, most - 2) + '..'; }
 shape('desc', svg, {id: 'described'}).textContent = 'Each process is a line from left to right, with its events in the order in which it makes ' +
   'them. Arrows are messages. Events that can be redone are pale. The cut of a breakpoint is a line across the processes. Arrow keys go from ' +
@@ -185,7 +197,7 @@ function placeStop() {
   const wished = chosen && chosen.p !== undefined ? [roving, chosen] : [roving];
   const wanted = [focused, ...wished.map(what => what && itemAt(what)), marks.group.querySelector('.latest'), items[0]];
   const stop = wanted.find(item => items.includes(item));
-  for (const item of items) set(item, {tabindex: item === stop ? 0 : -1});
+  for (const layer of [marks, names]) for (const item of layer.kept.values()) set(item, {tabindex: item === stop ? 0 : -1});
   if (rovesTo) {
     const item = itemAt(rovesTo);
     rovesTo = null;
@@ -206,131 +218,4 @@ function rove(key) {
   roving = rovesTo = neighbour(document.activeElement.chooses, key);
   show({isRoved: true});
 }
-
-// The drawing: the size of the window, the width of the names, the width of an event, the height of a process, the radius of a mark.
-const TOP = 30, NARROWEST = 6, WIDEST = 240, longestName = Math.max(...processes.map(({name}) => name.length));
-let wide = 0, high = 0, stripWidth = 0, margin = 0, width = 72, height = 0, radius = 8.5, isFitted = false;
-// The depth that the drawing reaches to the right, with the messages that are on their way.
-function deepest() {
-  let depth = Math.max(...later.map(({events}, p) => events.length > 0 ? events[events.length - 1].depth : state.lines[p].done.depth));
-  for (const {to, sent, got} of shown.channels.values()) {
-    if (sent.length > got.length) depth = Math.max(depth, flightDepth(to, sent[sent.length - 1], sent.length - got.length));
-  }
-  return depth;
-}
-function fittingWidth(depth) { return Math.max(NARROWEST, Math.min(110, (wide - margin - 16) / (depth + .7))); }
-function measure() {
-  wide = area.clientWidth;
-  high = area.clientHeight;
-  stripWidth = area.offsetWidth;
-  margin = Math.min(wide < 500 ? 90 : 180, 24 + 7.3 * longestName);
-  height = Math.max(isFitted ? 20 : 49, Math.min(92, (high - TOP - 6) / Math.max(1, rowCount)));
-  const depth = deepest();
-  if (isFitted) width = fittingWidth(depth);
-  radius = Math.max(2, Math.min(8.5, .42 * width, .3 * height));
-  across.resize(Math.max(wide, margin + (depth + (isFitted ? .6 : 1.2)) * width));
-  down.resize(Math.max(high, TOP + height * rowCount));
-}
-// Scrolls the drawing so that event n of process p is visible, with room for the events after it. For a chosen event, scrolls only as far
-// as needed.
-function reveal(p, n, isChosen) {
-  if (rowOf[p] < 0) return;
-  const right = (depthAt(p, n) - .4) * width, top = rowOf[p] * height, least = isChosen ? 16 : 30, most = wide - margin - Math.max(40, width);
-  if (n > 0 && across.whole > wide + 1 && (right < across.offset + least || right > across.offset + most)) {
-    across.offset = right - (!isChosen ? .6 * (wide - margin) : right < across.offset + least ? 30 : most);
-  }
-  if (top < down.offset || TOP + top + height > down.offset + high) down.offset = top - (high - height) / 2;
-}
-// Makes events wider or narrower. What is at this distance from the left edge of the drawing stays there.
-function zoom(factor, at) {
-  const from = Math.max(0, (at === undefined ? (wide + margin) / 2 : at) - margin), depth = (across.offset + from) / width;
-  isFitted = false;
-  width = Math.max(NARROWEST, Math.min(WIDEST, width * factor));
-  measure();
-  across.offset = depth * width - from;
-  set(find('fit'), {'aria-pressed': false});
-  show({});
-}
-let beforeFit = 72;
-function fit() {
-  isFitted = !isFitted;
-  if (isFitted) beforeFit = width; else width = beforeFit;
-  set(find('fit'), {'aria-pressed': isFitted});
-  show({isMoved: true});
-}
-// Where the pointer is in the drawing, as a distance from its left edge; undefined elsewhere.
-let pointer;
-function fromLeft(event) { return event.clientX - area.getBoundingClientRect().left; }
-area.addEventListener('pointermove', event => pointer = fromLeft(event));
-area.addEventListener('pointerleave', () => pointer = undefined);
-area.addEventListener('wheel', event => {
-  if (!event.ctrlKey) return;
-  event.preventDefault();
-  zoom(Math.exp(-Math.max(-120, Math.min(120, event.deltaY)) / 400), fromLeft(event));
-}, {passive: false});
-
-// Drags with a mouse move the drawing. A finger scrolls it by itself.
-let drag = null;
-area.addEventListener('pointerdown', event => {
-  if (event.pointerType !== 'mouse' || event.button !== 0) return;
-  drag = {x: event.clientX, y: event.clientY, left: across.offset, top: down.offset, isMoved: false};
-});
-addEventListener('pointermove', event => {
-  if (!drag) return;
-  const right = event.clientX - drag.x, below = event.clientY - drag.y;
-  if (!drag.isMoved && Math.hypot(right, below) < 5) return;
-  drag.isMoved = true;
-  area.classList.add('dragged');
-  across.offset = drag.left - right;
-  down.offset = drag.top - below;
-});
-// The click at the end of a drag chooses nothing.
-addEventListener('click', event => {
-  if (drag && drag.isMoved) event.stopPropagation();
-  drag = null;
-}, true);
-addEventListener('pointerup', () => {
-  area.classList.remove('dragged');
-  if (drag && !drag.isMoved) drag = null;
-  setTimeout(() => drag = null, 0);
-});
-
-// The overview: all events, in one row of pixels for each process, and the part that is visible. It is shown if the drawing is larger.
-const overview = find('overview'), strip = overview.querySelector('svg'), ticks = processes.map(() => shape('path', strip));
-const visible = shape('rect', strip);
-let strippedAt = null;
-// The pixels at which a process has events, as runs.
-function ticksOf(p, scale, size) {
-  const made = shown.events[p], again = later[p].events, path = [], y = 4 + rowOf[p] * 4;
-  const hasEvent = (list, from, to) => {
-    const i = firstWhere(list, ({depth}) => depth >= from);
-    return i < list.length && list[i].depth < to;
-  };
-  for (let x = 0; x < size; x += 2) {
-    if ([made, again].some(list => hasEvent(list, x / scale, (x + 2) / scale))) path.push('M' + x + ' ' + y + 'h1.5');
-  }
-  return path.join('');
-}
-function paintOverview() {
-  const isLarger = across.whole > wide + 1 || down.whole > high + 1, size = stripWidth;
-  overview.classList.toggle('unneeded', !isLarger);
-  if (!isLarger || size === 0) return;
-  const scale = size / (across.whole / width), now = [place, size, across.whole, rowCount].join();
-  set(strip, {width: size, height: 4 * rowCount + 4});
-  if (strippedAt !== now) ticks.forEach((path, p) => set(path, {d: rowOf[p] < 0 ? '' : ticksOf(p, scale, size)}));
-  strippedAt = now;
-  const {offset, whole} = across, share = Math.min(1, wide / whole), tall = 4 * rowCount + 2;
-  set(visible, {x: offset / whole * size, width: Math.max(6, share * size)});
-  set(visible, {y: 1 + down.offset / down.whole * tall, height: Math.min(1, high / down.whole) * tall});
-}
-function toOverview(event) {
-  const box = overview.getBoundingClientRect();
-  across.offset = (event.clientX - box.left) / box.width * across.whole - wide / 2;
-  down.offset = (event.clientY - box.top) / box.height * down.whole - high / 2;
-}
-overview.addEventListener('pointerdown', event => {
-  overview.setPointerCapture(event.pointerId);
-  toOverview(event);
-});
-overview.addEventListener('pointermove', event => { if (event.buttons & 1) toOverview(event); });
 "#;

@@ -1,6 +1,172 @@
 //! `tests/run page_sources --update` writes this file from `page/page.html` and what that includes.
 
 pub(super) static TEXT: &str = r#"
+// The drawing: the size of the window, the width of the names, the width of an event, the height of a process, the radius of a mark.
+const TOP = 30, NARROWEST = 6, WIDEST = 240, USUAL = 72, longestName = Math.max(...processes.map(({name}) => name.length));
+let wide = 0, high = 0, stripWidth = 0, margin = 0, width = USUAL, height = 0, radius = 8.5, isFitted = false;
+// The depth that the drawing reaches to the right, with the messages that are on their way.
+function deepest() {
+  let depth = Math.max(...later.map(({events}, p) => events.length > 0 ? events[events.length - 1].depth : state.lines[p].done.depth));
+  for (const {to, sent, got} of shown.channels.values()) {
+    if (sent.length > got.length) depth = Math.max(depth, flightDepth(to, sent[sent.length - 1], sent.length - got.length));
+  }
+  return depth;
+}
+function fittingWidth(depth) { return Math.max(1, Math.min(110, (wide - margin - 16) / (depth + .7))); }
+function measure() {
+  if (isWhole) return;
+  wide = area.clientWidth;
+  high = area.clientHeight;
+  stripWidth = area.offsetWidth;
+  margin = Math.min(wide < 500 ? 90 : 180, 24 + 7.3 * longestName);
+  height = Math.max(isFitted ? 4 : 49, Math.min(92, (high - TOP - 6) / Math.max(1, rowCount)));
+  const depth = deepest();
+  // When the page opens, events take the room that there is.
+  if (isFitted) width = fittingWidth(depth);
+  else if (shownLine < 0) width = Math.max(USUAL, Math.floor(fittingWidth(depth + .5)));
+  radius = Math.max(2, Math.min(8.5, .42 * width, .3 * height));
+  across.resize(Math.max(wide, margin + (depth + (isFitted ? .6 : 1.2)) * width));
+  down.resize(Math.max(high, TOP + height * rowCount));
+}
+// Draws all of the drawing, in place of what is visible, to save or print it; at most so many pixels each way, from what is visible on.
+const LARGEST = 12000;
+let isWhole = false, offsets = [0, 0];
+function drawWhole(isOn) {
+  isWhole = isOn;
+  if (isOn) {
+    offsets = [across.offset, down.offset];
+    if (across.whole <= LARGEST) across.offset = 0;
+    if (down.whole <= LARGEST) down.offset = 0;
+    [wide, high] = [across, down].map(({whole, offset}) => Math.min(LARGEST, whole - offset));
+  } else {
+    measure();
+    [across.offset, down.offset] = offsets;
+  }
+  paint(false);
+}
+addEventListener('beforeprint', () => drawWhole(true));
+addEventListener('afterprint', () => drawWhole(false));
+// Scrolls the drawing so that event n of process p is visible, with room for the events after it. For a chosen event, scrolls only as far
+// as needed.
+function reveal(p, n, isChosen) {
+  if (rowOf[p] < 0) return;
+  const right = (depthAt(p, n) - .4) * width, top = rowOf[p] * height, least = isChosen ? 16 : 30, most = wide - margin - Math.max(40, width);
+  if (n > 0 && across.whole > wide + 1 && (right < across.offset + least || right > across.offset + most)) {
+    across.offset = right - (!isChosen ? .6 * (wide - margin) : right < across.offset + least ? 30 : most);
+  }
+  if (top < down.offset || TOP + top + height > down.offset + high) down.offset = top - (high - height) / 2;
+}
+// Scrolls the drawing so that the last events of the breakpoint's processes in its cut are visible. When the page opens, they come nearer to
+// each other if they would not fit.
+function revealCut({cut, parts}, isOpening) {
+  const named = parts.map(([p]) => p).filter(p => rowOf[p] >= 0);
+  if (named.length === 0) return;
+  const depths = named.map(p => depthAt(p, cut[p])), least = Math.min(...depths), most = Math.max(...depths);
+  const apart = most - least + 1.5, room = wide - margin - 40;
+  if (isOpening && apart * width > room) {
+    width = Math.max(wide < 500 ? 12 : 40, Math.floor(room / apart));
+    measure();
+  }
+  const right = (most - .4) * width, farthest = right + margin + 12 + Math.max(40, width) - wide;
+  across.offset = Math.max(farthest, Math.min(right - .75 * (wide - margin), (least - .4) * width - 20));
+  const rows = named.map(p => rowOf[p] * height), top = Math.min(...rows);
+  if (top < down.offset || TOP + Math.max(...rows) + height > down.offset + high) down.offset = top;
+}
+// Makes events wider or narrower. What is at this distance from the left edge of the drawing stays there.
+function zoom(factor, at) {
+  const from = Math.max(0, (at === undefined ? (wide + margin) / 2 : at) - margin), depth = (across.offset + from) / width;
+  isFitted = false;
+  width = Math.max(NARROWEST, Math.min(WIDEST, width * factor));
+  measure();
+  across.offset = depth * width - from;
+  set(find('fit'), {'aria-pressed': false});
+  show({});
+}
+let beforeFit = USUAL;
+function fit() {
+  isFitted = !isFitted;
+  if (isFitted) beforeFit = width; else width = beforeFit;
+  set(find('fit'), {'aria-pressed': isFitted});
+  show({isMoved: true});
+}
+// Where the pointer is in the drawing, as a distance from its left edge; undefined elsewhere.
+let pointer;
+function fromLeft(event) { return event.clientX - area.getBoundingClientRect().left; }
+area.addEventListener('pointermove', event => pointer = fromLeft(event));
+area.addEventListener('pointerleave', () => pointer = undefined);
+area.addEventListener('wheel', event => {
+  if (!event.ctrlKey) return;
+  event.preventDefault();
+  zoom(Math.exp(-Math.max(-120, Math.min(120, event.deltaY)) / 400), fromLeft(event));
+}, {passive: false});
+
+// Drags with a mouse move the drawing. A finger scrolls it by itself.
+let drag = null;
+area.addEventListener('pointerdown', event => {
+  if (event.pointerType !== 'mouse' || event.button !== 0) return;
+  drag = {x: event.clientX, y: event.clientY, left: across.offset, top: down.offset, isMoved: false};
+});
+addEventListener('pointermove', event => {
+  if (!drag) return;
+  const right = event.clientX - drag.x, below = event.clientY - drag.y;
+  if (!drag.isMoved && Math.hypot(right, below) < 5) return;
+  drag.isMoved = true;
+  area.classList.add('dragged');
+  across.offset = drag.left - right;
+  down.offset = drag.top - below;
+});
+// The click at the end of a drag chooses nothing.
+addEventListener('click', event => {
+  if (drag && drag.isMoved) event.stopPropagation();
+  drag = null;
+}, true);
+addEventListener('pointerup', () => {
+  area.classList.remove('dragged');
+  if (drag && !drag.isMoved) drag = null;
+  setTimeout(() => drag = null, 0);
+});
+
+// The overview: all events, in a row of up to four pixels for each process, and the part that is visible. It is shown if the drawing is
+// larger, and takes at most an eighth of its height.
+const overview = find('overview'), strip = overview.querySelector('svg'), ticks = processes.map(() => shape('path', strip));
+const visible = shape('rect', strip);
+let strippedAt = null;
+function stripHigh() { return Math.max(.5, Math.min(4, (high / 8 - 4) / Math.max(1, rowCount))); }
+// The pixels at which a process has events, as runs.
+function ticksOf(p, scale, size) {
+  const made = shown.events[p], again = later[p].events, path = [], y = 2 + (rowOf[p] + .5) * stripHigh();
+  const hasEvent = (list, from, to) => {
+    const i = firstWhere(list, ({depth}) => depth >= from);
+    return i < list.length && list[i].depth < to;
+  };
+  for (let x = 0; x < size; x += 2) {
+    if ([made, again].some(list => hasEvent(list, x / scale, (x + 2) / scale))) path.push('M' + x + ' ' + y + 'h1.5');
+  }
+  return path.join('');
+}
+function paintOverview() {
+  const isLarger = across.whole > wide + 1 || down.whole > high + 1, size = stripWidth;
+  overview.classList.toggle('unneeded', !isLarger);
+  if (!isLarger || size === 0) return;
+  const scale = size / (across.whole / width), now = [place, size, across.whole, rowCount, stripHigh()].join();
+  set(strip, {width: size, height: stripHigh() * rowCount + 4});
+  if (strippedAt !== now) ticks.forEach((path, p) => set(path, {d: rowOf[p] < 0 ? '' : ticksOf(p, scale, size)}));
+  strippedAt = now;
+  const {offset, whole} = across, share = Math.min(1, wide / whole), tall = stripHigh() * rowCount + 2;
+  set(visible, {x: offset / whole * size, width: Math.max(6, share * size)});
+  set(visible, {y: 1 + down.offset / down.whole * tall, height: Math.min(1, high / down.whole) * tall});
+}
+function toOverview(event) {
+  const box = overview.getBoundingClientRect();
+  across.offset = (event.clientX - box.left) / box.width * across.whole - wide / 2;
+  down.offset = (event.clientY - box.top) / box.height * down.whole - high / 2;
+}
+overview.addEventListener('pointerdown', event => {
+  overview.setPointerCapture(event.pointerId);
+  toOverview(event);
+});
+overview.addEventListener('pointermove', event => { if (event.buttons & 1) toOverview(event); });
+
 // The name of an event, and what it did.
 function summary(p, n) {
   const what = n === 0 ? 'start' : n <= shown.events[p].length ? 'event ' + n : 'to redo: event ' + n;
@@ -11,9 +177,11 @@ function deeds(event) {
   const sets = event.sets.map(([name, , value]) => name + '=' + value);
   return ['command ' + event.k, ...sets, ...way ? [message + processes[other].name] : []].join(', ');
 }
-// The changes of an event, in so many characters: a name is cut before its value is.
-function settings(event, most) {
-  const [first, ...rest] = event.sets.filter(([, old, value]) => old !== value).map(([name, , value]) => [name, '=' + value]);
+// The changes of an event, in so many characters: a name is cut before its value is. What this part of a predicate names comes first.
+function settings(event, most, part) {
+  const changes = event.sets.filter(([, old, value]) => old !== value), named = part.match(/\w+(?:\[\d+\])*/g) || [];
+  changes.sort(([one], [other]) => named.includes(other) - named.includes(one));
+  const [first, ...rest] = changes.map(([name, , value]) => [name, '=' + value]);
   if (!first || most < 4) return '';
   const whole = [first, ...rest].map(parts => parts.join('')).join(' ');
   if (whole.length <= most) return whole;
@@ -39,12 +207,14 @@ function paintNames(part) {
   const {top, y} = part;
   processes.forEach(({name}, p) => {
     if (!isRowSeen(part, p)) return;
-    set(rails.item(p, 'line', ['line'])[0], {x1: 0, x2: wide, y1: y(p), y2: y(p)});
+    const [rail] = rails.item(p, 'line', ['line']);
+    set(rail, {x1: 0, x2: wide, y1: y(p), y2: y(p)});
+    set(rail.parentNode, {'aria-hidden': true});
     const [ground, text, title] = names.item(p, chosen && chosen.p === p && chosen.n === 0 ? 'chosen' : '', ['rect', 'text', 'title'], {p, n: 0});
     set(ground, {y: y(p) - .45 * height, width: margin, height: height + 1});
     set(text, {x: 8, y: y(p) + 4});
     ground.parentNode.isWithin = y(p) - top > .45 * height - 1 && y(p) - top < high - .55 * height + 1;
-    setText(text, short(name, Math.floor((margin - 20) / 7.3)));
+    setText(text, shortName(name, Math.floor((margin - 20) / 7.3)));
     nameItem(title, summary(p, 0));
   });
 }
@@ -73,7 +243,8 @@ function paintChannel(part, channel, cut) {
     const event = sent[n], last = got[n], depth = last ? last.depth : flightDepth(to, event, n - got.length);
     if (event.depth < low && depth > most && ++passing > 20) continue;
     const crosses = cut && isInside(cut, event) && !(last && isInside(cut, last));
-    paintArrow(part, channel, n, event, 'arrow' + (last ? '' : ' flying') + (crosses ? ' crossing ' + colourOf(cut.name) : ''));
+    const middle = chosenEvent(), way = middle && last !== middle ? relation(last || event, middle) : middle ? ' past' : '';
+    paintArrow(part, channel, n, event, 'arrow' + (last ? '' : ' flying') + (crosses ? ' crossing ' + colourOf(cut.name) : '') + way);
   }
 }
 
@@ -81,9 +252,15 @@ function paintChannel(part, channel, cut) {
 function markKinds(p, n, isMade, latestOf, cut) {
   const isLast = cut && cut.cut[p] === n && cut.parts.some(([q]) => q === p);
   return 'event' + (isMade ? '' : ' later') + (latestOf[p] === n ? ' latest' : '') + (chosen && chosen.p === p && chosen.n === n ? ' chosen' : '') +
-    (cut && isMade && !isInside(cut, {p, n}) ? ' beyond' : '') + (isLast ? ' holding ' + colourOf(cut.name) : '');
+    (cut && isMade && !isInside(cut, {p, n}) ? ' beyond' : '') + (isLast ? ' holding ' + colourOf(cut.name) : '') +
+    (isMade ? relation(shown.events[p][n - 1], chosenEvent()) : '');
 }
-function paintMark(part, event, {p, n, depth, room, kinds}) {
+// The part of the predicate for which the cut needs n events of process p; an empty text if it is another event.
+function decidedPart(p, n, cut) {
+  const part = cut && cut.cut[p] === n ? cut.parts.find(([q]) => q === p) : undefined;
+  return part ? part[1] : '';
+}
+function paintMark(part, event, {p, n, depth, room, kinds, decides}) {
   const {x, y} = part, digits = String(n).length, forDigits = radius < 8 ? 0 : 2.9 * digits + 2.5;
   const half = Math.max(radius, Math.min(forDigits, width * .48));
   const [ring, disc, number, sets, title] = marks.item(p + ',' + n, kinds, ['ellipse', 'ellipse', 'text', 'text', 'title'], {p, n});
@@ -95,7 +272,7 @@ function paintMark(part, event, {p, n, depth, room, kinds}) {
   set(ring.parentNode, {transform: 'translate(' + x(depth) + ' ' + y(p) + ')'});
   ring.parentNode.isWithin = isWithin(part, x(depth), y(p));
   setText(number, half * 2 >= 5.8 * digits && radius >= 8 ? n : '');
-  setText(sets, height < 34 ? '' : settings(event, Math.min(60, Math.floor((room * width - 4) / 6.7))));
+  setText(sets, height < 34 ? '' : settings(event, Math.min(60, Math.floor((room * width - 4) / 6.7)), decides));
   nameItem(title, summary(p, n) + ': ' + deeds(event));
 }
 // The labels of events have the room up to the next event.
@@ -103,7 +280,8 @@ function paintRow(part, p, latestOf, cut) {
   const made = shown.events[p], again = later[p].events, {low, most} = part;
   function mark(event, n, depth) {
     const room = n < sizeOf(p) ? depthAt(p, n + 1) - depth : 60;
-    paintMark(part, event, {p, n, depth, room, kinds: markKinds(p, n, n <= made.length, latestOf, cut)});
+    const kinds = markKinds(p, n, n <= made.length, latestOf, cut);
+    paintMark(part, event, {p, n, depth, room, kinds, decides: decidedPart(p, n, cut)});
   }
   for (let i = firstWhere(made, event => event.depth >= low); i < made.length && made[i].depth <= most; i++) mark(made[i], i + 1, made[i].depth);
   for (let i = firstWhere(again, ({depth}) => depth >= low); i < again.length && again[i].depth <= most; i++) {
@@ -116,19 +294,21 @@ function cutName({name, cut}) {
 }
 function paintCut(part, point, i, isTinted) {
   const {seen, top, x, y} = part, {name, cut} = point, near = value => Math.max(-3000, Math.min(wide + 5000, value));
-  const offset = 4 * (i % 5), gap = Math.min(radius + 4.5 + offset, width / 2), drawn = cut.map((n, p) => [n, p]).filter(([, p]) => rowOf[p] >= 0);
+  const offset = 4 * (i % 5), gap = Math.min(radius + 4.5 + offset, width / 2), drawn = order.filter(p => rowOf[p] >= 0).map(p => [cut[p], p]);
   const places = drawn.map(([n, p]) => [near(x(depthAt(p, n)) + (n === 0 ? Math.min(offset, width / 2) : gap)), y(p)]);
   if (places.length === 0 || !isTinted && places.every(([x]) => x < seen + margin) || places.every(([x]) => x > seen + wide)) return;
   const kind = 'cut ' + colourOf(name) + (state.halting === name ? ' halting' : '') + (chosen && chosen.point === name ? ' chosen' : '');
   const [tint, line, title] = cuts.item(name, kind, ['path', 'path', 'title'], {point: name}), first = places[0][0];
-  const path = [[first, top], ...places.flatMap(([x, y]) => [[x, y - .45 * height], [x, y + .55 * height]])].map(place => place.join()).join(' L');
-  const bottom = places[places.length - 1][1] + .55 * height;
-  set(tint, {class: 'tint', d: isTinted ? 'M' + path + ' L-3000,' + bottom + ' L-3000,' + top + ' Z' : ''});
-  set(line, {d: 'M' + path});
+  // Its name is at the top of the window, where the line crosses the first row that is visible.
+  const [crossed] = places.find(([, y]) => y > top) || places[places.length - 1];
+  const path = places.flatMap(([x, y]) => [[x, y - .45 * height], [x, y + .55 * height]]).map(place => place.join()).join(' L');
+  const [begin, bottom] = [places[0][1] - .45 * height, places[places.length - 1][1] + .55 * height];
+  set(tint, {class: 'tint', d: isTinted ? 'M' + path + ' L-3000,' + bottom + ' L-3000,' + begin + ' Z' : ''});
+  set(line, {d: 'M' + first + ',' + Math.min(top, begin) + ' L' + path});
   nameItem(title, cutName(point));
   const [text] = labels.item(name, kind, ['text'], {point: name});
   set(text.parentNode, {'aria-hidden': true});
-  set(text, {x: Math.max(margin + 4, Math.min(wide - 8 * name.length - 8, first + 5 - seen)), y: 12 + 14 * (i % 2)});
+  set(text, {x: Math.max(margin + 4, Math.min(wide - 8 * name.length - 8, crossed + 5 - seen)), y: 12 + 14 * (i % 2)});
   setText(text, short(name, 20));
 }
 
@@ -151,200 +331,5 @@ function paint(fades) {
   for (let p = 0; p < count; p++) if (isRowSeen(part, p)) paintRow(part, p, latestOf, cut);
   for (const layer of LAYERS) layer.end();
   placeStop();
-}
-
-// The parts of a predicate, evaluated as the process language says. A fault is an exception, and a part with a fault does not hold.
-const LEAST = -(2n ** 63n), MOST = 2n ** 63n - 1n;
-function inRange(number) {
-  if (number < LEAST || number > MOST) throw new RangeError('the result is out of range');
-  return number;
-}
-const OPERATORS = {
-  '+': (one, other) => inRange(one + other), '-': (one, other) => inRange(one - other), '*': (one, other) => inRange(one * other),
-  '/': (one, other) => inRange(one / other), '%': (one, other) => one % other,
-  '=': (one, other) => one === other, '!=': (one, other) => one !== other,
-  '<': (one, other) => one < other, '<=': (one, other) => one <= other, '>': (one, other) => one > other, '>=': (one, other) => one >= other,
-};
-function binary(operator, one, other) {
-  if (operator === 'and') return state => one(state) && other(state);
-  if (operator === 'or') return state => one(state) || other(state);
-  const act = OPERATORS[operator];
-  return state => act(one(state), other(state));
-}
-// The part as a function of a local state, which has a value for each variable and two counts for each other process.
-function readPart(text) {
-  const tokens = text.match(/\w+(?:\[\d+\])*|[!<>]=|[^\s\w]/g) || [];
-  let at = 0;
-  function countOf(way) {
-    const other = processes.findIndex(({name}) => name === tokens[at + 1]);
-    at += 3;
-    return state => state[way](other);
-  }
-  function grouped() {
-    const sign = tokens[at];
-    let read;
-    if (sign === 'not' || sign === '-') {
-      at++;
-      const operand = expression();
-      read = sign === 'not' ? state => !operand(state) : state => inRange(-operand(state));
-    } else {
-      const one = expression(), operator = tokens[at++];
-      read = tokens[at - 1] === ')' ? (at--, one) : binary(operator, one, expression());
-    }
-    at++;
-    return read;
-  }
-  function expression() {
-    const token = tokens[at++];
-    if (token === '(') return grouped();
-    if (token === 'true' || token === 'false') return () => token === 'true';
-    if ((token === 'sent' || token === 'got') && tokens[at] === '(') return countOf(token);
-    if (token === '-') return (number => () => number)(-BigInt(tokens[at++]));
-    return /^\d/.test(token) ? (number => () => number)(BigInt(token)) : state => BigInt(numbers.get(state.values.get(token)) || state.values.get(token));
-  }
-  return expression();
-}
-const readParts = new Map();
-// Whether a part of process p holds after n events, which set these values.
-function holds(text, p, n, values) {
-  if (!readParts.has(text)) readParts.set(text, readPart(text));
-  const upTo = list => BigInt(firstWhere(list, event => event.n > n));
-  try {
-    return readParts.get(text)({values, sent: q => upTo(shown.channel(p, q).sent), got: q => upTo(shown.channel(q, p).got)}) === true;
-  } catch {
-    return false;
-  }
-}
-// Event n of process p, which was made, or what is before its first event.
-function madeEvent(p, n) { return n === 0 ? at(state.lines[p].done, 0) : shown.events[p][n - 1]; }
-// Since which event a part has held, which holds after n events of process p. It is sought in the last thousand states.
-const SEARCHED = 1000;
-function heldSince(text, p, n) {
-  const values = valuesAt(madeEvent(p, n)), least = Math.max(0, n - SEARCHED);
-  for (let event = n; event > least; event--) {
-    for (const [name, old] of madeEvent(p, event).sets) values.set(name, old);
-    if (!holds(text, p, event - 1, values)) return 'holds since event ' + event;
-  }
-  return least === 0 ? 'holds from the start' : 'holds since event ' + least + ' or earlier';
-}
-
-// The breakpoint whose cut is shown as a state: the chosen one, or else the one that halts the session.
-function shownCut() {
-  const name = chosen && chosen.point !== undefined ? chosen.point : state.halting;
-  const point = points.find(point => point.name === name);
-  return point && point.cut ? point : null;
-}
-function isInside({cut}, {p, n}) { return n <= cut[p]; }
-// The messages that are sent in a cut and not received in it: for each channel its processes and the values.
-function crossing({cut}) {
-  return [...shown.channels.values()].flatMap(({from, to, sent, got}) => {
-    const first = firstWhere(got, event => event.n > cut[to]), end = firstWhere(sent, event => event.n > cut[from]);
-    const values = sent.slice(first, Math.min(end, first + 50)).map(event => event.exchange[2]);
-    return first < end ? [{from, to, values: end - first > 50 ? [...values, '..'] : values}] : [];
-  });
-}
-
-// The details below the drawing.
-function node(tag, parts, attributes = {}) {
-  const made = document.createElement(tag);
-  for (const name in attributes) made.setAttribute(name, attributes[name]);
-  made.append(...[parts].flat());
-  return made;
-}
-function table(caption, rows, kind = '') {
-  const body = rows.map(([head, ...cells]) => node('tr', [node('th', head, {scope: 'row'}), ...cells.map(cell => node('td', cell))], {class: kind}));
-  return node('table', [node('caption', caption), ...body]);
-}
-function link(p, n) {
-  const made = node('button', 'event ' + n + ' of ' + processes[p].name);
-  made.onclick = () => choose({p, n});
-  return made;
-}
-function exchanged(event) {
-  const [way, other, value, n] = event.exchange, name = processes[other].name;
-  const channel = way === 's' ? shown.channel(event.p, other) : shown.channel(other, event.p);
-  const end = way === 's' ? channel.got[n - 1] : channel.sent[n - 1];
-  if (way === 'r') return ['received ' + value + ' from ' + name + ', its message ' + n + ', sent by ', end ? link(other, end.n) : name];
-  return ['sent ' + value + ' to ' + name + ', message ' + n + ', ', ...end ? ['received by ', link(other, end.n)] : ['on its way']];
-}
-function eventDetails({p, n}) {
-  const {name, variables, commands} = processes[p], event = n === 0 ? at(state.lines[p].done, 0) : eventAt(p, n);
-  if (!event) return [node('h2', name + ' has no event ' + n + ' here')];
-  const isMade = n <= shown.events[p].length, details = [node('h2', summary(p, n))];
-  if (n > 0) {
-    const [line] = commands[event.k] || ['?'];
-    details.push(node('p', ['command ' + event.k + ' in line ' + line + ': ', node('code', commandText(p, event.k))]));
-  }
-  if (!isMade) return event.sets.length > 0 || event.exchange ? [...details, node('p', 'as it was made before: ' + deeds(event))] : details;
-  if (event.exchange) details.push(node('p', exchanged(event)));
-  const values = valuesAt(event), sets = new Map(event.sets.map(([name, old]) => [name, old]));
-  const local = variables.map(([name]) => [name, values.get(name), ...sets.has(name) ? ['was ' + sets.get(name)] : []]);
-  const clock = clockAt(event).map((own, q) => [processes[q].name, String(own)]);
-  const upTo = list => firstWhere(list, other => other.n > n);
-  const counts = processes.map((other, q) => [other.name, upTo(shown.channel(p, q).sent), upTo(shown.channel(q, p).got)]);
-  const messages = counts.filter(([, sent, got]) => sent + got > 0).map(([name, sent, got]) => [name, 'sent ' + sent, 'got ' + got]);
-  const upToIt = messages.length > 0 ? [table('messages up to it', messages)] : [];
-  details.push(node('div', [table('variables after it', local), table('its clock', clock), ...upToIt], {class: 'parts'}));
-  return details;
-}
-function counted(n) { return n + (n === 1 ? ' event' : ' events'); }
-// Why the candidate of a process advanced.
-function reason({p, to, by, event}) {
-  const {name} = processes[p];
-  if (by === undefined) return name + (to === 1 ? ' at its start' : ' after ' + counted(to - 1)) + ': its part is false';
-  return name + ' needs ' + counted(to) + ': event ' + event + ' of ' + processes[by].name + ' depends on that';
-}
-const HELP = 'Arrow keys, Page Up, Page Down, Home and End go through the lines, h and H through the halts, and / searches. A click chooses an ' +
-  'event, a name or a breakpoint; so does Enter, after Tab and arrow keys have reached it. Shift with an arrow key continues from it; Escape ends ' +
-  'the choice. f fits the drawing to the window, + and - change its size, and p shows the program.';
-function stateDetails() {
-  const rows = state.lines.map(({done}, p) => {
-    const values = [...valuesAt(done)].map(([name, value]) => name + '=' + value).join(' '), again = later[p].events.length;
-    return [processes[p].name, counted(done.n) + (again ? ', ' + again + ' to redo' : ''), values];
-  });
-  const ways = [...shown.channels.values()].filter(({sent, got}) => sent.length > got.length).map(({from, to, sent, got}) => {
-    const values = sent.slice(got.length, got.length + 50).map(event => event.exchange[2]).join(' ');
-    return [processes[from].name + ' to ' + processes[to].name, values + (sent.length > got.length + 50 ? ' ..' : '')];
-  });
-  const halting = points.find(({name}) => name === state.halting);
-  return [...halting ? cutDetails(halting) : [], node('h2', 'all processes'),
-    node('div', [table('', rows), ...ways.length ? [table('on their way', ways)] : []], {class: 'parts'}), node('p', HELP, {class: 'help'})];
-}
-// Replaces those parts that have changed, so that a selection of text in the others stays.
-function update(parent, parts) {
-  let old = parent.firstChild;
-  for (const part of [...node('div', parts).childNodes]) {
-    let same = old;
-    while (same && !same.isEqualNode(part)) same = same.nextSibling;
-    while (same && old !== same) old = removed(old);
-    if (same) old = same.nextSibling; else parent.insertBefore(part, old);
-  }
-  while (old) old = removed(old);
-}
-// Removes a part, and gives the one after it.
-function removed(part) {
-  const next = part.nextSibling;
-  part.remove();
-  return next;
-}
-function showDetails() {
-  const details = find('details'), hadFocus = details.contains(document.activeElement) && details !== document.activeElement;
-  update(details, !chosen ? stateDetails() : chosen.point !== undefined ? pointDetails(chosen.point) : eventDetails(chosen));
-  if (hadFocus && !details.contains(document.activeElement)) details.focus();
-}
-function showPoints() {
-  const area = find('points');
-  while (area.children.length > points.length) {
-    if (area.lastChild === document.activeElement) listArea.focus();
-    area.lastChild.remove();
-  }
-  points.forEach(({name, armed, cut}, i) => {
-    const button = area.children[i] || area.appendChild(node('button', ''));
-    const isHalting = state.halting === name;
-    const parts = [!cut ? 'no cut' : count > 8 ? 'cut' : 'cut ' + cut.join(' '), ...armed ? [] : ['not armed'], ...isHalting ? ['halts'] : []];
-    setText(button, name + ': ' + parts.join(', '));
-    button.chooses = {point: name};
-    set(button, {class: colourOf(name) + (isHalting ? ' halting' : ''), 'aria-pressed': Boolean(chosen && chosen.point === name)});
-  });
 }
 "#;

@@ -1,6 +1,183 @@
 //! `tests/run page_sources --update` writes this file from `page/page.html` and what that includes.
 
 pub(super) static TEXT: &str = r#"
+// The program as it was written, up to the lines of the session, with the command of the chosen event, or of the event that the line made, marked.
+const programLines = readable(session.program || '').split(/^%%\s*$/m)[0].replace(/\s+$/, '').split('\n');
+// A line of the program, with as many signs, in which comments and their words are blank.
+function withoutComment(line) { return line.replace(/#.*/, comment => ' '.repeat(comment.length)); }
+// The lines of commands of process p that begin in the same line of the text.
+function commandsIn(p, line) { return processes[p].commands.flatMap(([at], k) => at === line ? [k] : []); }
+// Where command k of process p is in the program: its line, from 0, and where it begins in the line. If several commands begin in the line, a
+// repetition may have made more of each, one round after the other.
+function commandStart(p, k) {
+  const [line] = processes[p].commands[k] || [0];
+  if (!line || line > programLines.length) return null;
+  const text = withoutComment(programLines[line - 1]), begins = [...text.matchAll(/(?:\b\w+\s*:\s*)?\bwhen\b/g)].map(({index}) => index);
+  if (begins.length === 0) return {line: line - 1, from: text.search(/\S/)};
+  // (the members of a family have the same commands)
+  const family = ({name}) => name.replace(/_\d.*/, '');
+  const before = processes.slice(0, p).some((process, q) => family(process) !== family(processes[p]) && commandsIn(q, line).length > 0);
+  const at = commandsIn(p, line).indexOf(k) % begins.length;
+  return {line: line - 1, from: before && begins.length > 1 ? text.search(/\S/) : begins[at]};
+}
+// The parts of the program that a command takes: of each line the first and the last sign.
+function commandParts(p, k) {
+  const begin = commandStart(p, k), parts = new Map();
+  if (!begin) return parts;
+  for (let {line, from} = begin; line < programLines.length; line++, from = 0) {
+    const text = withoutComment(programLines[line]), end = text.indexOf(';', from);
+    parts.set(line, [from, end < 0 ? programLines[line].length : end + 1]);
+    if (end >= 0) break;
+  }
+  return parts;
+}
+// The whole command in one line, or as much as the page has of it.
+function commandText(p, k) {
+  const parts = [...commandParts(p, k)].map(([line, [from, to]]) => withoutComment(programLines[line]).slice(from, to).trim());
+  return parts.filter(part => part).join(' ') || (processes[p].commands[k] || [0, ''])[1];
+}
+// The event whose command is marked.
+function markedEvent() {
+  if (chosen && chosen.p !== undefined) return chosen.n > 0 ? eventAt(chosen.p, chosen.n) : null;
+  if (chosen) return null;
+  const p = latest(place).findIndex(n => n > 0);
+  return p < 0 ? null : eventAt(p, latest(place)[p]);
+}
+let isProgramShown = false;
+function programLine(text, part) {
+  if (!part) return node('div', text || ' ');
+  const [from, to] = part;
+  return node('div', [text.slice(0, from), node('mark', text.slice(from, to)), text.slice(to)]);
+}
+// Marks the command. Only the lines that change are made anew.
+let markedLines = [];
+function markProgram() {
+  if (!isProgramShown) return;
+  const event = markedEvent(), parts = event ? commandParts(event.p, event.k) : new Map(), area = find('program');
+  if (area.childElementCount === 0) area.append(...programLines.map(text => programLine(text)));
+  for (const line of new Set([...markedLines, ...parts.keys()])) {
+    const row = area.children[line], made = programLine(programLines[line], parts.get(line));
+    if (!row.isEqualNode(made)) row.replaceWith(made);
+  }
+  markedLines = [...parts.keys()];
+  const mark = area.querySelector('mark');
+  if (!mark) return;
+  const box = mark.getBoundingClientRect(), whole = area.getBoundingClientRect();
+  if (box.top < whole.top || box.bottom > whole.bottom) area.scrollTop += box.top - whole.top - whole.height / 3;
+}
+function showProgram(isOn) {
+  isProgramShown = isOn;
+  find('below').classList.toggle('with-program', isOn);
+  set(find('code'), {'aria-pressed': isOn});
+  markProgram();
+}
+function toggleProgram() { showProgram(!isProgramShown); }
+showProgram(Boolean(session.program) && innerWidth >= 1100);
+
+// The address ends in the number of the line. After a colon, the chosen breakpoint follows, or the chosen process and the number of its event.
+function addressEnd() {
+  const {point, p, n} = chosen || {};
+  return '#' + place + (!chosen ? '' : point !== undefined ? ':' + point : ':' + processes[p].name + ':' + n);
+}
+// Shows what the end of an address names, and otherwise where the session halts first. What was shown before no longer becomes the address.
+function openAt(end) {
+  clearTimeout(addressWaits);
+  const [line, name, n] = end.slice(1).split(':'), p = processes.findIndex(process => process.name === name);
+  if (/^\d+$/.test(line)) place = Math.min(lines.length, Number(line));
+  if (/^\d+$/.test(n) && p >= 0) chosen = {p, n: Number(n)};
+  else chosen = name && n === undefined ? {point: name} : null;
+  show({isMoved: true, isChosen: chosen !== null});
+}
+// The file's name, from the address of the page, without its ending; or else the names of the processes.
+function sessionName() {
+  let file = location.pathname.split('/').pop();
+  try {
+    file = decodeURIComponent(file);
+  } catch {
+    // The name is shown as it is.
+  }
+  return readable(file).replace(/\.html?$/, '') || processes.map(({name}) => name).join(', ');
+}
+function shownTitle() {
+  const line = place === 0 ? 'start' : 'line ' + place;
+  return [sessionName(), line, ...state.halting ? ['halted ' + state.halting] : []].join(', ');
+}
+// The address follows a moment later, because browsers limit how often it may change. Back leads to where a jump began.
+let addressWaits = 0;
+function noteAddress() {
+  document.title = shownTitle();
+  clearTimeout(addressWaits);
+  addressWaits = setTimeout(writeAddress, 250);
+}
+function writeAddress() {
+  if (location.hash === addressEnd()) return;
+  const isJump = location.hash && !playing && Math.abs(place - parseInt(location.hash.slice(1))) > 1;
+  try {
+    history[isJump ? 'pushState' : 'replaceState'](null, '', addressEnd());
+  } catch {
+    // The browser lets this page have no address of its own.
+  }
+}
+addEventListener('hashchange', event => openAt(new URL(event.newURL).hash));
+
+// Shows for a moment, in place of a button's text, that it has done its work.
+function confirmIn(button, text) {
+  const before = button.textContent;
+  button.textContent = text;
+  setTimeout(() => button.textContent = before, 1200);
+}
+function copySelected(text) {
+  const field = document.body.appendChild(node('textarea', text, {class: 'outside'}));
+  field.select();
+  const isCopied = document.execCommand('copy');
+  field.remove();
+  return isCopied;
+}
+async function copyText(text, button) {
+  let isCopied = true;
+  try {
+    await navigator.clipboard.writeText(text);
+  } catch {
+    isCopied = copySelected(text);
+    button.focus();
+  }
+  confirmIn(button, isCopied ? 'copied' : 'not copied');
+}
+function copyLink() {
+  writeAddress();
+  copyText(location.href.replace(/#.*/, '') + addressEnd(), find('copy'));
+}
+
+// The whole drawing as a file of its own: each shape with the look that it has here.
+const LOOKS = ['fill', 'fill-opacity', 'stroke', 'stroke-width', 'stroke-dasharray', 'stroke-linejoin', 'opacity', 'color', 'font-family',
+  'font-size', 'font-weight', 'text-anchor', 'paint-order'];
+function copyLooks(from, to) {
+  const looks = getComputedStyle(from), copies = [...to.children];
+  for (const name of LOOKS) to.style.setProperty(name, looks.getPropertyValue(name));
+  for (const name of ['tabindex', 'role', 'class', 'aria-describedby']) to.removeAttribute(name);
+  [...from.children].forEach((child, i) => copyLooks(child, copies[i]));
+  if (from.matches('.gone, desc')) to.remove();
+}
+function drawingFile() {
+  const copy = svg.cloneNode(true), ground = document.createElementNS(SVG, 'rect');
+  copyLooks(svg, copy);
+  set(copy, {xmlns: SVG, role: 'img'});
+  set(ground, {width: wide, height: high, fill: getComputedStyle(document.body).backgroundColor});
+  const title = document.createElementNS(SVG, 'title');
+  title.textContent = shownTitle();
+  copy.prepend(title, ground);
+  return new XMLSerializer().serializeToString(copy);
+}
+function save() {
+  const link = node('a', '', {download: sessionName().replace(/[^\w.-]+/g, '_') + '-line-' + place + '.svg'});
+  drawWhole(true);
+  link.href = URL.createObjectURL(new Blob([drawingFile()], {type: 'image/svg+xml'}));
+  drawWhole(false);
+  link.click();
+  setTimeout(() => URL.revokeObjectURL(link.href), 10000);
+  confirmIn(find('save'), 'saved');
+}
+
 // The search finds lines by their text and reply, events by what they did, and values that processes have now.
 const FOUND = 50, searchField = find('search'), results = find('results');
 let atResult = -1;
@@ -134,152 +311,4 @@ shownPart.addEventListener('keydown', event => {
   shownPart.querySelector('summary').focus();
   event.stopPropagation();
 });
-
-// Changes: of the current line, of the chosen event or breakpoint, of the visible part. They are drawn once for each frame.
-let waits = null;
-function show(what) {
-  if (waits) return void Object.assign(waits, what);
-  waits = what;
-  requestAnimationFrame(() => {
-    const {isMoved, isChosen} = waits;
-    waits = null;
-    if (isMoved) {
-      follow();
-      say();
-    }
-    if (isMoved || isChosen) {
-      showDetails();
-      showPoints();
-      markProgram();
-      noteAddress();
-    }
-    measure();
-    if (isMoved) toChange();
-    if (isChosen && chosen && chosen.n <= sizeOf(chosen.p)) reveal(chosen.p, chosen.n, true);
-    if (rovesTo && rovesTo.n <= sizeOf(rovesTo.p)) reveal(rovesTo.p, rovesTo.n, true);
-    paintLines();
-    paint(isMoved || isChosen);
-    paintOverview();
-  });
-}
-// Shows the line and its reply above.
-function say() {
-  find('slider').value = place;
-  const [text, reply] = place === 0 ? ['start of the session', ''] : lines[place - 1];
-  const begin = place === 0 ? '' : 'line ' + place + ' of ' + lines.length + ': ';
-  update(find('said'), [begin, node('code', text), reply && ' -> ', node('b', node('code', reply))]);
-}
-// Scrolls to what the line changed. After a jump, finds the last change, which may be in an earlier line.
-function toChange() {
-  revealLine();
-  let n = place;
-  if (Math.abs(place - shownLine) > 1) while (n > 1 && states[n].lines === states[n - 1].lines) n--;
-  const made = latest(n).map((n, p) => [p, Math.min(n, sizeOf(p))]).filter(([p, n]) => n > 0 && rowOf[p] >= 0);
-  if (made.length > 0) reveal(...made.reduce((one, other) => depthAt(...other) > depthAt(...one) ? other : one));
-  shownLine = place;
-}
-function go(n) {
-  const next = Math.max(0, Math.min(lines.length, n));
-  if (next !== place) {
-    place = next;
-    show({isMoved: true});
-  }
-}
-// Goes so many listed lines further.
-function step(by) {
-  const at = listPlace(place), isBetween = listed[at] !== place;
-  go(listed[Math.max(0, Math.min(listed.length - 1, at + by + (isBetween && by < 0 ? 1 : 0)))]);
-}
-function choose(what) {
-  chosen = what;
-  if (what && what.p !== undefined) roving = what;
-  find('details').scrollTop = 0;
-  show({isChosen: true});
-}
-// Whether a line changed something: an event, a breakpoint, or which one halts.
-function isChange(n) { return states[n] !== states[n - 1]; }
-// Plays the lines that change something, and the last line.
-function play(isOn) {
-  clearInterval(playing);
-  playing = 0;
-  setText(find('play'), isOn ? 'stop' : 'play');
-  if (!isOn) return;
-  if (place === lines.length) go(0);
-  playing = setInterval(playOn, 600);
-}
-function playOn() {
-  if (place === lines.length) return play(false);
-  let n = place + 1;
-  while (n < lines.length && !isChange(n)) n++;
-  go(n);
-}
-// Chooses a neighbour of the chosen event. If none is chosen, chooses the event that the line made.
-function walk(key) {
-  if (chosen && chosen.p !== undefined) return choose(rovesIfFocused(neighbour(chosen, key)));
-  const p = Math.max(0, latest(place).findIndex(n => n > 0));
-  choose(rovesIfFocused({p, n: state.lines[p].done.n}));
-}
-// The focus follows the choice, if it is in the drawing.
-function rovesIfFocused(what) {
-  if (svg.contains(document.activeElement)) rovesTo = what;
-  return what;
-}
-// Goes to the next line that halts the session, or to the one before.
-function toHalt(isNext) {
-  const line = isNext ? halts.find(n => n > place) : halts.findLast(n => n < place);
-  if (line !== undefined) go(line);
-}
-// Escape ends the choice. With none, it brings the focus to the lines.
-function escape() {
-  if (chosen) choose(null); else listArea.focus();
-}
-const moves = {ArrowUp: -1, ArrowLeft: -1, ArrowDown: 1, ArrowRight: 1, PageUp: -10, PageDown: 10, Home: -Infinity, End: Infinity};
-const keys = {
-  Escape: escape, '+': () => zoom(1.25, pointer), '=': () => zoom(1.25, pointer), '-': () => zoom(.8, pointer), f: fit, h: () => toHalt(true),
-  H: () => toHalt(false), '/': openSearch, p: toggleProgram,
-};
-// Whether the focused part of the page uses this key by itself.
-function isTaken(focused, key, isShifted) {
-  if (focused.matches('input:not([type=range]), select')) return true;
-  if (focused.matches('summary') && /^( |Enter)$/.test(key)) return true;
-  return focused.matches('#details, #program') && !isShifted && key in moves && (focused.id === 'program' || !/Left|Right/.test(key));
-}
-// Whether the focus came by Tab. Only then arrow keys move it in the drawing: after a click they go through the lines.
-let isTabbed = false;
-document.addEventListener('pointerdown', () => isTabbed = false, true);
-document.addEventListener('keydown', event => {
-  if (event.ctrlKey || event.altKey || event.metaKey) return;
-  const focused = document.activeElement, {key} = event;
-  if (key === 'Tab') isTabbed = true;
-  if (isTaken(focused, key, event.shiftKey)) return;
-  if (event.shiftKey && key.startsWith('Arrow')) walk(key);
-  else if (isTabbed && key.startsWith('Arrow') && svg.contains(focused) && focused.chooses) rove(key);
-  else if (key in moves) step(moves[key]);
-  else if (focused.chooses && (key === 'Enter' || key === ' ')) choose(focused.chooses);
-  else if (key === ' ' && focused.tagName !== 'BUTTON') play(!playing);
-  else if (Object.hasOwn(keys, key)) keys[key]();
-  else return;
-  event.preventDefault();
-});
-document.addEventListener('click', event => {
-  const item = event.target.closest('g, #points button, .row');
-  if (!item || !getSelection().isCollapsed && item.line !== undefined) return;
-  if (item.chooses) choose(item.chooses);
-  else if (item.line !== undefined) go(item.line);
-});
-find('slider').max = lines.length;
-find('halts').append(...halts.slice(0, 100).map(n => node('option', '', {value: n})));
-find('slider').oninput = event => go(Number(event.target.value));
-const buttons = {
-  first: () => step(-Infinity), before: () => step(-1), next: () => step(1), last: () => step(Infinity), play: () => play(!playing),
-  narrower: () => zoom(.8), wider: () => zoom(1.25), fit, copy: copyLink, save, code: toggleProgram,
-};
-for (const name in buttons) find(name).onclick = buttons[name];
-listArea.onscroll = area.onscroll = () => show({});
-new ResizeObserver(() => show({})).observe(area);
-openAt(location.hash);
-})();
-</script>
-</body>
-</html>
 "#;

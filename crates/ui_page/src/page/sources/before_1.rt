@@ -85,7 +85,7 @@ button[aria-pressed=true], #shown[open] summary { background: var(--chosen); bor
 #points { display: flex; flex-wrap: wrap; gap: 4px 6px; padding: 5px 8px; max-height: 5.6em; overflow: auto; flex: none; }
 #points:empty { display: none; }
 #points button { border-left: 5px solid currentColor; padding: 1px 8px; }
-#points [aria-pressed=true] { background: var(--chosen); }
+#points [aria-pressed=true] { background: var(--ground); box-shadow: inset 0 0 0 2px currentColor; }
 #drawing { flex: 1; min-height: 6rem; cursor: grab; user-select: none; }
 #drawing.dragged { cursor: grabbing; }
 #overview { overflow: hidden; border-width: 1px 0 0; flex: none; cursor: pointer; touch-action: none; }
@@ -117,6 +117,7 @@ mark { background: var(--chosen); color: inherit; outline: 1px solid var(--focus
 #details .state td { vertical-align: top; }
 #details .state th { min-width: 6em; }
 #details .state td:nth-child(3) { min-width: 8em; }
+#details .whole { white-space: nowrap; }
 #details .state td:nth-child(2), #details .state td:nth-child(4) { white-space: nowrap; }
 #details .state .part th { font-weight: 600; color: inherit; }
 #details details { margin: 4px 0; }
@@ -136,14 +137,20 @@ g { cursor: inherit; }
 .event .number { fill: var(--on-event); text-anchor: middle; font-size: 10px; }
 .event .sets, .arrow text { font-size: 11px; paint-order: stroke; stroke: var(--ground); stroke-width: 4px; stroke-linejoin: round; }
 .event .sets { fill: var(--weak); text-anchor: start; }
-.event.beyond ellipse { fill: var(--ground); }
-.event.later ellipse { fill: var(--ground); stroke: var(--weak); stroke-dasharray: 3 2; }
+.event.beyond ellipse:not(.ring) { fill: var(--ground); }
+.event.later ellipse:not(.ring) { fill: var(--ground); stroke: var(--weak); stroke-dasharray: 3 2; }
 .event.beyond .number { fill: var(--text); }
 .event.later .number { fill: var(--weak); }
 .event.holding ellipse:not(.ring) { fill: currentColor; stroke: currentColor; }
 .event.holding .sets { fill: currentColor; font-weight: bold; }
 .event .ring { fill: none; stroke: none; }
+.event.holding .ring { stroke: currentColor; stroke-width: 2; }
 .event.latest .ring { stroke: var(--focus); stroke-dasharray: none; }
+.event.past ellipse:not(.ring) { stroke-width: 4; }
+.event.apart:not(.holding) ellipse:not(.ring) { fill: var(--ground); stroke: var(--rail); stroke-dasharray: 1 3; }
+.event.apart:not(.holding) .number { fill: var(--text); }
+.arrow.past line, .arrow.past path { stroke-width: 2.5; }
+.arrow.apart line, .arrow.apart path { stroke: var(--rail); stroke-width: 1; }
 .event.chosen .ring { stroke: var(--text); stroke-width: 3; stroke-dasharray: none; }
 .event:focus-visible .ring { stroke: var(--focus); stroke-width: 5; stroke-dasharray: none; }
 .names :focus-visible rect { stroke: var(--focus); stroke-width: 5; }
@@ -241,7 +248,7 @@ g { cursor: inherit; }
 <button id=code title="The text of the program (p)" aria-pressed=false>program</button>
 <details id=shown><summary id=choose>show</summary><div id=choices></div></details>
 <button id=copy title="Copy the address of what is shown">copy link</button>
-<button id=save title="Save the drawing, as it is now, as an SVG file">save SVG</button>
+<button id=save title="Save the whole drawing as an SVG file">save SVG</button>
 <div id=finder>
 <input id=search type=search role=combobox aria-controls=results aria-expanded=false aria-autocomplete=list
   placeholder="search ( / )" aria-label="Search lines, events and values">
