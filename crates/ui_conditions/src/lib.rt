@@ -5,9 +5,11 @@ mod comparing;
 mod counts;
 mod faults;
 mod index_ranges;
+mod operators;
 mod parts;
 
-pub use counts::{MemberCount, find_count};
+pub use counts::MemberCount;
 pub use faults::{faulting_part, is_range_check};
 pub use index_ranges::{family_end, put_folded};
-pub use parts::put_conjuncts;
+pub use operators::{is_comparison, operator_text};
+pub use parts::{family_of, part_of, put_conjuncts};

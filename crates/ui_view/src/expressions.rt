@@ -4,6 +4,7 @@ use dbg_base::{Direction, Expr, Operator, Pid};
 use local_eval::Env;
 use proc_tree::{Action, Guarded, Program};
 use std::alloc::AllocError;
+use ui_conditions::{is_comparison, operator_text};
 use ui_text::{Notes, Part, ProgramText, ShownValue};
 
 /// A process of a program, with its names as they were written. Values may be shown as numbers alone.
@@ -13,43 +14,6 @@ pub struct ProcessView<'a> {
     pub text: &'a ProgramText,
     pub pid: Pid,
     has_numbers: bool,
-}
-
-// Whether an operator compares numbers.
-fn is_comparison(operator: Operator) -> bool {
-    match operator {
-        Operator::Equal
-        | Operator::NotEqual
-        | Operator::Less
-        | Operator::LessOrEqual
-        | Operator::Greater
-        | Operator::GreaterOrEqual => true,
-        Operator::Add
-        | Operator::Subtract
-        | Operator::Multiply
-        | Operator::Divide
-        | Operator::Remainder
-        | Operator::And
-        | Operator::Or => false,
-    }
-}
-
-fn operator_text(operator: Operator) -> &'static str {
-    match operator {
-        Operator::Add => "+",
-        Operator::Subtract => "-",
-        Operator::Multiply => "*",
-        Operator::Divide => "/",
-        Operator::Remainder => "%",
-        Operator::Equal => "=",
-        Operator::NotEqual => "!=",
-        Operator::Less => "<",
-        Operator::LessOrEqual => "<=",
-        Operator::Greater => ">",
-        Operator::GreaterOrEqual => ">=",
-        Operator::And => "and",
-        Operator::Or => "or",
-    }
 }
 
 /// How a count of messages is written.

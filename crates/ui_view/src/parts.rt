@@ -4,42 +4,8 @@ use crate::expressions::ProcessView;
 use dbg_base::Expr;
 use local_eval::{Env, guard};
 use std::alloc::{AllocError, Global};
-use ui_conditions::{MemberCount, family_end, find_count, put_conjuncts, put_folded};
+use ui_conditions::{MemberCount, family_end, family_of, part_of, put_conjuncts, put_folded};
 use ui_text::{Notes, Part};
-
-// A part of a condition that is no conjunction: members of which so many have to hold, or the part is the only member.
-fn part_of<'e>(
-    alloc: Global,
-    env: &Env,
-    conjunct: &'e Expr,
-) -> Result<MemberCount<'e>, AllocError> {
-    match find_count(alloc, conjunct)? {
-        Some(count) if !count.faults(env) => Ok(count),
-        _ => MemberCount::alone(alloc, conjunct),
-    }
-}
-
-// The conjuncts from one position to before another, which all have to hold, if none of them faults, and they are several.
-fn family_of<'e>(
-    alloc: Global,
-    env: &Env,
-    conjuncts: &[&'e Expr],
-    from: usize,
-    end: usize,
-) -> Result<Option<MemberCount<'e>>, AllocError> {
-    let mut members = Vec::new(alloc);
-    for at in from..end {
-        if let Some(conjunct) = conjuncts.get(at) {
-            members.push(*conjunct)?;
-        }
-    }
-    let family = MemberCount {
-        least: members.len(),
-        members,
-    };
-    let is_family = family.least > 1 && !family.faults(env);
-    Ok(if is_family { Some(family) } else { None })
-}
 
 impl ProcessView<'_> {
     // Expressions as texts, each in a line.
