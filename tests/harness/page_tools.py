@@ -113,7 +113,8 @@ CHOSEN_EVENTS = 8  # at most, after the last line
 def check_causes(page, expected, session):
     """A chosen event has as many events before it as its clock counts, and the command shown for it undoes it and the events that it names."""
     last, made = len(expected.lines), {name: expected.events_made(len(expected.lines), name) for name in expected.processes}
-    events = [(name, n) for name in expected.processes for n in sorted({1, made[name] // 2, made[name]}) if n > 0]
+    events = [(name, n) for name in expected.processes for n in sorted({1, made[name] // 2, made[name]}) if 0 < n <= made[name]]
+    page.browser.evaluate(LATER)
     for name, n in events[::-(-len(events) // CHOSEN_EVENTS) or 1]:
         page.browser.evaluate(f"location.hash = '{last}:{name}:{n}'")
         page.at = page.look()

@@ -76,7 +76,7 @@ function revealCut({cut, parts}, isOpening) {
 function zoom(factor, at) {
   const from = Math.max(0, (at === undefined ? (wide + margin) / 2 : at) - margin), depth = (across.offset + from) / width;
   isFitted = false;
-  width = Math.max(NARROWEST, Math.min(WIDEST, width * factor));
+  width = Math.max(NARROWEST, Math.min(WIDEST, Math.round(1000 * width * factor) / 1000));
   measure();
   across.offset = depth * width - from;
   set(find('fit'), {'aria-pressed': false});
