@@ -82,7 +82,11 @@ fn a_write_that_failed_is_not_tried_again(rt: HostRuntime) -> Result<(), Fail> {
             expect_true(&rt, output.write(text).is_err());
             expect_true(&rt, output.set_style(Style::Value).is_err());
             drop(output);
-            expect_same(&rt, stumbles.taken.as_slice(), text.get(..taken).unwrap_or(&[]));
+            expect_same(
+                &rt,
+                stumbles.taken.as_slice(),
+                text.get(..taken).unwrap_or(&[]),
+            );
             expect_same(&rt, (stumbles.calls, stumbles.flushes), (left + 1, 0));
             expect_true(&rt, stumbles.styles.is_empty());
         }
