@@ -24,7 +24,7 @@ pub(crate) fn shown_message<'a>(view: SourceView<'a>, hop: Hop) -> Part<'a> {
 }
 
 /// Appends an event to the last line: its process and number.
-pub(crate) fn put_place(
+pub fn put_place(
     notes: &mut Notes,
     view: SourceView<'_>,
     event: EventPlace,

@@ -13,4 +13,6 @@ mod rows;
 mod undoing;
 mod written;
 
+pub use event_words::put_place;
 pub use how::CausalSession;
+pub use past::{EventPlace, first_after, is_before, is_event};

@@ -1,6 +1,6 @@
 //! What happened before an event, and what it led to.
 
-ghost use Rattle.std.specs.Prelude.{◌≡◌, ◌↔◌, List, IfOk, IfErr, IfSome, IsTrue, MatchOption};
+ghost use Rattle.std.specs.Prelude.{◌≡◌, ◌≤◌, ◌↔◌, List, IfOk, IfErr, IfSome, IsTrue, MatchOption};
 ghost use Rattle.dbg_base.specs.declared.refusal.Refusal.TheVariants.{Memory};
 ghost use Rattle.dbg_base.specs.Orders as orders;
 ghost use Rattle.dbg_base.specs.Trees as tree;
@@ -12,13 +12,13 @@ use std::alloc::Global;
 
 /// An event: its process, and its number there, from 1.
 #[derive(Clone, Copy, PartialEq, Eq)]
-pub(crate) struct EventPlace {
-    pub(crate) pid: Pid,
-    pub(crate) number: u32,
+pub struct EventPlace {
+    pub pid: Pid,
+    pub number: u32,
 }
 
 /// Whether the world has this event.
-pub(crate) fn is_event(world: &World, event: EventPlace) -> bool
+pub fn is_event(world: &World, event: EventPlace) -> bool
     ensures { IsTrue result ↔ IsEvent world.now event }
 {
     if event.pid.0 >= world.tally().processes() || event.number == 0 {
@@ -54,7 +54,7 @@ pub(crate) fn count_before(world: &World, event: EventPlace, of: Pid) -> u32
 }
 
 /// Whether an event is another one, or happened before it.
-pub(crate) fn is_before(world: &World, earlier: EventPlace, event: EventPlace) -> bool
+pub fn is_before(world: &World, earlier: EventPlace, event: EventPlace) -> bool
     ensures { (P : tree.Program) (E : List orders.Event) → AreEvents P E world.now → IsEvent world.now event
         → IsTrue result ↔ IsBefore P E earlier event }
 {
@@ -64,8 +64,9 @@ pub(crate) fn is_before(world: &World, earlier: EventPlace, event: EventPlace) -
 
 /// The number, from 1, of the first event of a process that is an event, or happened after it. If there is none, it is one more than the
 /// process has events.
-pub(crate) fn first_after(world: &World, event: EventPlace, pid: Pid) -> u32
-    ensures { IsFirstAfter world.now event pid.0 result }
+pub fn first_after(world: &World, event: EventPlace, pid: Pid) -> u32
+    ensures after { IsFirstAfter world.now event pid.0 result }
+    ensures one { 1 ≤ result }
 {
     for earlier in 0..world.place(pid) {
         let number = earlier + 1;

@@ -4,8 +4,8 @@ use Rattle.dbg_base.specs.SystemStates.{place_at}
 use Rattle.ui_causes.proofs.CausalPastLemmas.{NoneBefore, none_more, first_found, first_missing}
 use Rattle.ui_causes.proofs.past.first_after.Goals as goal
 
-pub returns-then-is_before : goal.returns-then-is_before
-returns-then-is_before c =
+pub returns-then-is_before-clause-after : goal.returns-then-is_before-clause-after
+returns-then-is_before-clause-after c =
     first_found c.args.world.now c.args.event c.args.pid.0 (c.loop-earlier.earlier + 1) _ refl refl (omega arith) c.loop-earlier.invariant
     (λ P E are is. (c.if-is_before.ensures P E are is).0 refl)
 
@@ -14,8 +14,8 @@ loop-earlier-preserved c =
     none_more c.args.world.now c.args.event c.args.pid.0 (c.loop-earlier.earlier + 1) _ refl refl c.loop-earlier.invariant
     (λ P E are is before. let t = (c.if-is_before.ensures P E are is).1 before in cc)
 
-pub returns : goal.returns
-returns c =
+pub returns-clause-after : goal.returns-clause-after
+returns-clause-after c =
     let w = c.args.world.now in
     let place = place_at w.state c.args.pid.0 in
     let here = c.loop-earlier.auto.earlier-end in

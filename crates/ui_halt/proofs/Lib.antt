@@ -1,0 +1,4 @@
+pub mod LaneLemmas
+pub mod ReasonLemmas
+pub mod MarkLemmas
+pub mod PartLemmas

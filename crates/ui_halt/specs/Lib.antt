@@ -1,0 +1,4 @@
+pub mod Lanes
+pub mod Reasons
+pub mod Parts
+pub mod Marks
