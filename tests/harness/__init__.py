@@ -12,6 +12,7 @@ from typing import NamedTuple
 
 TOP = Path(__file__).resolve().parents[2]
 TESTS = TOP / "tests"
+os.environ.pop("COLUMNS", None)  # (lines wrap at 80 columns, at whatever terminal the suites run)
 DIFF_LINES = 12  # of a text that differs, at most, in a report
 
 
@@ -64,11 +65,13 @@ class Suite:
     def summary(self):
         return f"{self.passed} passed, {self.failed} failed" + (f", {self.skipped} skipped" if self.skipped else "")
 
-    def rdbg(self, *words, given=b"", folder=TOP, merge=False, timeout=120):
-        """Runs the program. With `merge` its errors are part of its output, in the order in which it writes them."""
+    def rdbg(self, *words, given=b"", folder=TOP, merge=False, timeout=120, columns=None):
+        """Runs the program, which wraps lines as at a terminal of so many columns. With `merge` its errors are part of its output, in the order
+        in which it writes them."""
         given = given.encode() if isinstance(given, str) else given
         errors = subprocess.STDOUT if merge else subprocess.PIPE
-        ran = subprocess.run([self.program, *map(str, words)], input=given, stdout=subprocess.PIPE, stderr=errors, cwd=folder, timeout=timeout)
+        ran = subprocess.run([self.program, *map(str, words)], input=given, stdout=subprocess.PIPE, stderr=errors, cwd=folder, timeout=timeout,
+                             env=None if columns is None else {**os.environ, "COLUMNS": str(columns)})
         return Ran(ran.returncode, ran.stdout, ran.stderr or b"")
 
     def case(self, name, problem=""):

@@ -59,7 +59,7 @@ class Reading:
         self.breakpoint = self.words[1] if self.words[0] in ("cut", "why") else None  # the one that the lines are about
         self.command = None  # the process and the command that the next line is about
         self.needed = {}  # for each process how many events of it the search for a cut says are needed
-        self.first_depth = 1  # the depth of the first column of events
+        self.columns = {}  # in the report of a halt, where the marks of each depth end
         self.recorded, self.required = defaultdict(list), defaultdict(list)  # by its topic, what was said, and what has to be
 
     @property

@@ -5,11 +5,15 @@ from harness.claims_breakpoints import require_breakpoints
 from harness.claims_commands import require_commands
 from harness.claims_cuts import require_cuts
 from harness.claims_events import require_events
+from harness.claims_halts import require_halts
 from harness.claims_refusals import require_refusals
 from harness.claims_words import require_words
 from harness.language import read_program
 from harness.player import Player
 from harness.session import call
+
+
+WIDE = 1000  # columns, so that no line wraps
 
 
 class Talked:
@@ -22,7 +26,7 @@ class Talked:
 
 def talked_lines(suite, program, lines):
     """The lines of an interactive session."""
-    ran = suite.rdbg("talk", given=program + "".join(f"{line}\n" for line in lines))
+    ran = suite.rdbg("talk", given=program + "".join(f"{line}\n" for line in lines), columns=WIDE)
     if ran.status != 0:
         raise Fault(f"talk: status {ran.status}")
     written, talked = [line for line in ran.output.decode().splitlines() if line], []
@@ -47,7 +51,7 @@ def problem_of_line(player, talked):
     if reply != talked.reply:
         return f"the reply is {talked.reply!r}, and the model's is {reply!r}"
     reading = Reading(talked.line, reply, talked.notes, before, player.state, taken)
-    for require in (require_events, require_commands, require_breakpoints, require_cuts, require_refusals, require_words):
+    for require in (require_events, require_commands, require_breakpoints, require_cuts, require_halts, require_refusals, require_words):
         require(reading)
     return reading.problem()
 

@@ -1,4 +1,4 @@
-"""What an interactive session says of random sessions: its replies are those of `run`, its explanations are true, and its advice is accepted.
+"""What an interactive session says of random sessions and examples: its explanations are true, and its advice is accepted.
 
 A model of the session checks each line of an explanation (harness/explanations.py). In addition, `run` is given what the explanations
 offer, and each command of which `on` or `list` says whether it can fire. `back` takes that back before the next line of the session.
@@ -11,10 +11,11 @@ from contextlib import closing
 from functools import partial
 from typing import NamedTuple
 
-from harness import Fault
+from harness import Fault, sessions
 from harness.explanations import problem_of_explanations, talked_lines
 from harness.player import pairs
 from harness.random_sessions import END, random_session
+from harness.reports import problem_of_halts, problem_of_size
 from harness.session import call
 from harness.tampering import unnoticed
 
@@ -30,6 +31,13 @@ OFFERS = [
     (r"the breakpoint (\w+) halts the session: `pass` disarms it, and then the breakpoint (\w+) does", "pass {0}", "ok halted {1}"),
     (r"`(arm \w+)` arms it", "{0}", ACCEPTED),
     (r"`(goto \w+)` undoes the events that are not in its cut; .*", "{0}", "ok( .*)?"),
+]
+# What the last line of the report of a halt offers: each of these may be in it.
+HALT_OFFERS = [
+    (r"`(pass \w+)` goes on;", "{0}", "ok"),
+    (r"`(pass \w+)` disarms it, and then the breakpoint (\w+) halts;", "{0}", "ok halted {1}"),
+    (r"`(goto \w+)` undoes the \d+ events? that", "{0}", r"ok( \w+=\d+)+ halted \w+"),
+    (r"`(undo \w+)` undoes \w+ \d+ alone", "{0}", r"ok \w+ \d+( halted \w+)?"),
 ]
 ROLLBACK = re.compile(r"`rollback (\w+) (\d+)` undoes this event and all events that depend on it")
 COMMAND = re.compile(r"(\w+): command (\d+) in line \d+: .*")
@@ -50,6 +58,9 @@ def offers(talked):
         for pattern, command, due in OFFERS:
             found = re.fullmatch(pattern, note)
             if found:
+                yield Trial(command.format(*found.groups()), due.format(*found.groups()))
+        for pattern, command, due in HALT_OFFERS if note.startswith("`pass ") else []:
+            for found in re.finditer(pattern, note):
                 yield Trial(command.format(*found.groups()), due.format(*found.groups()))
         rollback = ROLLBACK.fullmatch(note)
         if rollback:
@@ -135,10 +146,18 @@ def found_problem(suite, number):
         return traceback.format_exc()
 
 
+def check_examples(suite):
+    """Tests what is said of the examples, and that the reports of their halts have few rows."""
+    for file in sessions("examples", "examples/notation"):
+        suite.attempt(f"what is said of {file.name}", problem_of_halts, suite, file)
+        suite.attempt(f"the reports of {file.name}", problem_of_size, suite, file)
+
+
 def run(suite):
     """Plays the sessions side by side: most of the time goes to the program under test, in processes of its own."""
-    sessions = range(ALL_SESSIONS if suite.options.all else SESSIONS)
+    numbers = range(ALL_SESSIONS if suite.options.all else SESSIONS)
     suite.program  # found once, before there are threads
-    with ThreadPoolExecutor(len(os.sched_getaffinity(0))) as pool, closing(pool.map(partial(found_problem, suite), sessions)) as problems:
-        for number, problem in zip(sessions, problems):
+    check_examples(suite)
+    with ThreadPoolExecutor(len(os.sched_getaffinity(0))) as pool, closing(pool.map(partial(found_problem, suite), numbers)) as problems:
+        for number, problem in zip(numbers, problems):
             suite.case(f"random session {number}", problem)

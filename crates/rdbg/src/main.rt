@@ -24,7 +24,7 @@ use std::{env, io};
 use talking::talk_again;
 use testing::test;
 use typing::{Device, FileInput, Typing, open};
-use ui_diagram::{PictureForm, WIDTH};
+use ui_diagram::PictureForm;
 use ui_expect::{ReplayNames, fill_session};
 use ui_picture::{draw, draw_status};
 use ui_repl::{expand, explain, name_commands, tell_notation};
@@ -85,7 +85,7 @@ fn do_work<R: Threads + Wait + Sync, W: Sink, E: Sink>(
         Work::Expand => status(&expand(alloc, &mut reader, writer, errors)),
         Work::NameCommands => status(&name_commands(alloc, &mut reader, writer, errors)),
         Work::Talk(_) => {
-            let width = picture_width(rt);
+            let width = line_width(rt);
             status(&talk_again(alloc, width, reader.into_inner(), writer))
         }
         Work::Draw(picture) => { draw_status(&draw(alloc, picture, &mut reader, writer, errors)) }
@@ -120,15 +120,15 @@ fn fill<W: Sink, E: Sink>(rt: &HostRuntime, name: &str, writer: &mut W, errors: 
     }
 }
 
-// How many characters wide a picture of an interactive session is: as wide as the terminal, if COLUMNS says how wide that is, without the
-// two blanks before it.
-fn picture_width(rt: &HostRuntime) -> usize {
+// How many characters wide the lines of an interactive session are: as wide as the terminal, if COLUMNS says how wide that is, without the
+// two blanks before them.
+fn line_width(rt: &HostRuntime) -> Option<usize> {
     match env::var(rt, "COLUMNS") {
         Ok(columns) => match columns.as_str().parse::<usize>() {
-            Ok(width) if 22 <= width && width <= 1_000 => width - 2,
-            _ => WIDTH as usize,
+            Ok(width) if 22 <= width && width <= 1_000 => Some(width - 2),
+            _ => None,
         },
-        Err(_) => WIDTH as usize,
+        Err(_) => None,
     }
 }
 

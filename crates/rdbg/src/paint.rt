@@ -73,7 +73,8 @@ fn sequence_of(style: Style) -> &'static str {
             let place = number as usize % HUES.len();
             HUES.get(place).copied().unwrap_or(PLAIN)
         }
-        Style::Value | Style::Halt => "\x1b[1m", // bold
+        Style::Value => "\x1b[1m", // bold
+        Style::Halt => "\x1b[1;31m", // bold red
         Style::Place => "\x1b[2m", // faint
         Style::Refusal => "\x1b[31m", // red
         Style::Halted(_) => "\x1b[7m", // inverse

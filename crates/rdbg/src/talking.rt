@@ -9,10 +9,10 @@ use ui_repl::talk;
 // How many programs a person may type until one is accepted.
 const PROGRAMS: u32 = 10_000;
 
-/// An interactive session, whose pictures are so many characters wide. If a person types the program and it is refused, another one is read.
+/// An interactive session, whose lines are so many characters wide, if that is known. If a person types the program and it is refused, another one is read.
 pub(crate) fn talk_again<W: Sink>(
     alloc: Global,
-    width: usize,
+    width: Option<usize>,
     input: Device<'_>,
     writer: &mut W,
 ) -> Result<Served, ServeFault> {

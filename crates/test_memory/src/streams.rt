@@ -42,9 +42,6 @@ back
 breaks
 ";
 
-// How many characters wide its pictures are.
-const WIDTH: usize = 80;
-
 // Buffers for the output of the calls, and for comparing it. Each has room for all of it.
 #[derive(Drop)]
 pub(crate) struct StreamRoom {
@@ -137,7 +134,7 @@ impl Server {
             Server::Talk => {
                 talk(
                     alloc,
-                    WIDTH,
+                    None,
                     &mut Noted::new(Typist::new(input)),
                     &mut writer,
                 )

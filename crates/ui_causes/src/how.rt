@@ -209,7 +209,7 @@ impl<'a> CausalSession<'a> {
         let Some(number) = number else {
             return Ok(self.tell_numbers(notes, pid)?);
         };
-        let rows = Rows::new(self.view.text.longest_name());
+        let rows = Rows::new(self.view);
         let event = EventPlace { pid, number };
         EventView {
             view: self.view,

@@ -2,9 +2,7 @@
 
 use std::alloc::AllocError;
 use ui_text::{Notes, Part};
-
-// The most characters of a line of words, with which an explanation fits 80 columns.
-const WIDTH: usize = 78;
+use ui_view::SourceView;
 
 // How many characters a label has that is not about a process, with the blanks around it.
 const LABEL: usize = 15;
@@ -17,6 +15,8 @@ const FROM: usize = 7;
 pub(crate) struct Rows {
     /// Where the words begin.
     pub(crate) column: usize,
+    // The most characters of a line.
+    width: usize,
 }
 
 /// No words. They are one line.
@@ -28,10 +28,12 @@ pub(crate) fn new_words(notes: &Notes) -> Result<Notes, AllocError> {
 }
 
 impl Rows {
-    /// Rows about processes with names of at most so many characters.
-    pub(crate) fn new(longest: usize) -> Rows {
+    /// Rows about the processes of this session.
+    pub(crate) fn new(view: SourceView<'_>) -> Rows {
+        let longest = view.text.longest_name();
         Rows {
             column: longest.saturating_add(FROM).max(LABEL),
+            width: view.width,
         }
     }
 
@@ -46,11 +48,6 @@ impl Rows {
         notes.tab(self.column)
     }
 
-    // How many characters the last line has.
-    fn width(notes: &Notes) -> usize {
-        notes.line(notes.count().saturating_sub(1)).bytes.len()
-    }
-
     /// Appends words to the last line after this mark, or puts them into a new line, if they do not fit.
     pub(crate) fn put(
         &self,
@@ -60,11 +57,11 @@ impl Rows {
     ) -> Result<(), AllocError> {
         let words = words.line(0).bytes;
         notes.add(mark)?;
-        let width = Rows::width(notes);
+        let width = notes.width();
         if width <= self.column {
             return notes.add_with("{}", &[Part::Bytes(words)]);
         }
-        if width.saturating_add(1).saturating_add(words.len()) > WIDTH {
+        if width.saturating_add(1).saturating_add(words.len()) > self.width {
             notes.say("")?;
             notes.tab(self.column)?;
             return notes.add_with("{}", &[Part::Bytes(words)]);

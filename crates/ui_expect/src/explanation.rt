@@ -3,7 +3,6 @@
 use dbg_base::Call;
 use dbg_command::SessionView;
 use std::alloc::{AllocError, Global};
-use ui_diagram::WIDTH;
 use ui_repl::{AnsweredLine, Sentences, WrittenProgram};
 use ui_text::{Notes, Part};
 use ui_view::Explainer;
@@ -19,7 +18,7 @@ impl<'a> LastExplanation<'a> {
     /// Nothing was explained yet.
     pub(crate) fn new(alloc: Global, written: &'a WrittenProgram) -> LastExplanation<'a> {
         LastExplanation {
-            sentences: Sentences::new(alloc, written, WIDTH as usize),
+            sentences: Sentences::new(alloc, written, None),
             notes: Notes::new(alloc),
         }
     }

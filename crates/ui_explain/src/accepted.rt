@@ -2,10 +2,10 @@
 
 use crate::batches::made_from;
 use crate::explained::ExplainedSession;
-use dbg_base::{Call, Done, Pid, Plan, Refusal, Reply};
+use dbg_base::{Call, Cut, Done, Name, Pid, Plan, Refusal, Reply, Said};
 use std::alloc::{AllocError, Global};
 use ui_text::{Notes, Part};
-use ui_view::EventNews;
+use ui_view::{EventNews, named_reply};
 
 /// What has to be known of a session before a call: how many events each process had, and how long its line was.
 #[derive(Drop)]
@@ -13,6 +13,8 @@ pub struct Before {
     places: Vec<(u32, u32)>,
     // If it says what an undo is about to undo, how many lines the explanation had before that.
     lines: Option<usize>,
+    // The breakpoint that halts the session, and its cut.
+    halt: Option<(Name, Cut)>,
 }
 
 impl Before {
@@ -21,6 +23,15 @@ impl Before {
         Before {
             places: Vec::new(alloc),
             lines: None,
+            halt: None,
+        }
+    }
+
+    // Whether the session was halted by this breakpoint, at this cut.
+    fn is_halt(&self, name: Name, cut: &Cut) -> bool {
+        match &self.halt {
+            Some((before, place)) => *before == name && *place == *cut,
+            None => false,
         }
     }
 
@@ -47,6 +58,17 @@ impl ExplainedSession<'_> {
             .tell_event(notes, news, pid, self.view.session.world.rows().len(pid))
     }
 
+    // The breakpoint that halts the session, and its cut, if one does.
+    fn present_halt(&self, alloc: Global) -> Result<Option<(Name, Cut)>, AllocError> {
+        let Some(name) = self.view.session.book.halted() else {
+            return Ok(None);
+        };
+        match self.view.cut_of(name) {
+            Some(cut) => Ok(Some((name, Cut::new(Vec::from_slice(alloc, cut.counts())?)))),
+            None => Ok(None),
+        }
+    }
+
     /// Notes what has to be known of a session before a call, to explain afterwards what the call did. Before an undo, says what the last
     /// event did.
     pub fn note_before(
@@ -55,6 +77,7 @@ impl ExplainedSession<'_> {
         before: &mut Before,
         call: &Call,
     ) -> Result<(), AllocError> {
+        before.halt = self.present_halt(notes.alloc())?;
         match call {
             Call::Give(Plan::Step(_, _) | Plan::Next(_) | Plan::Redo(_)) => {}
             Call::Give(Plan::Undo(pid)) => {
@@ -146,12 +169,43 @@ impl ExplainedSession<'_> {
         }
     }
 
+    // Says that a breakpoint halts the session. If it did so before, at the same cut, it does not show that again.
+    fn tell_halted_by(
+        &self,
+        notes: &mut Notes,
+        before: &Before,
+        call: &Call,
+        said: &Said,
+        name: Name,
+    ) -> Result<(), Refusal> {
+        match self.view.cut_of(name) {
+            Some(cut) if !before.is_halt(name, cut) => {
+                self.tell_halt(notes, name, cut)?;
+                Ok(self.tell_reply_again(notes, call, said)?)
+            }
+            _ => Ok(self.tell_same_halt(notes, name)?),
+        }
+    }
+
+    // Shows the reply again, as the last line.
+    fn tell_reply_again(
+        &self,
+        notes: &mut Notes,
+        call: &Call,
+        said: &Said,
+    ) -> Result<(), AllocError> {
+        let reply = named_reply(notes.alloc(), self.view.text, call, said)?;
+        let line = reply.line.as_slice().trim_ascii_end();
+        notes.say_with("{}", &[Part::Bytes(line)])
+    }
+
     /// Says what an accepted command did.
     pub fn tell_reply(
         &self,
         notes: &mut Notes,
         before: &Before,
         call: &Call,
+        said: &Said,
         reply: &Reply,
     ) -> Result<(), Refusal> {
         self.tell_done(notes, before, call, &reply.done)?;
@@ -161,10 +215,7 @@ impl ExplainedSession<'_> {
             }
         }
         match reply.halted {
-            Some(name) => {
-                self.tell_halt(notes, name)?;
-                self.view.tell_continuing(notes, name)
-            }
+            Some(name) => self.tell_halted_by(notes, before, call, said, name),
             None => Ok(()),
         }
     }

@@ -4,6 +4,7 @@ use crate::explained::ExplainedSession;
 use dbg_base::{Call, Cause, Choice, Elimination, Name, Pid, Query, Refusal};
 use least_cut::Detector;
 use std::alloc::{AllocError, Global};
+use ui_halt::last_true;
 use ui_text::{Notes, Part};
 use ui_view::part_of;
 
@@ -154,7 +155,9 @@ impl ExplainedSession<'_> {
         ) else {
             return Ok(());
         };
-        let Some(held) = self.last_held(pid, part, needed.events)? else {
+        let rows = self.view.session.world.rows();
+        let truths = rows.truths(notes.alloc(), pid, part)?;
+        let Some(held) = last_true(truths.items(), needed.events) else {
             return Ok(());
         };
         let scope = self.view.scope(pid);

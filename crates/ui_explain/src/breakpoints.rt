@@ -1,10 +1,9 @@
-//! Halts, and what all breakpoints ask for.
+//! What breakpoints ask for.
 
 use crate::explained::ExplainedSession;
 use dbg_base::{Name, Refusal};
-use shell_io::Style;
 use std::alloc::{AllocError, Global};
-use ui_text::{Notes, Part};
+use ui_text::Notes;
 
 impl ExplainedSession<'_> {
     /// Shows the state of the cut of a breakpoint, if it has one.
@@ -14,25 +13,6 @@ impl ExplainedSession<'_> {
         };
         match detector.cut() {
             Some(cut) => self.tell_cut_state(notes, detector, cut),
-            None => Ok(()),
-        }
-    }
-
-    /// Says that a breakpoint halts the session, what its predicate is, and what the earliest global state is in which it holds. Then shows
-    /// the events up to there.
-    pub(crate) fn tell_halt(&self, notes: &mut Notes, name: Name) -> Result<(), AllocError> {
-        let Some(detector) = self.view.detector_of(name) else {
-            return Ok(());
-        };
-        notes.begin_line(Style::Halt)?;
-        notes.add("halted by ")?;
-        self.view.put_predicate(notes, name, detector)?;
-        notes.say("the earliest global state in which this holds:")?;
-        match detector.cut() {
-            Some(cut) => {
-                self.tell_cut_state(notes, detector, cut)?;
-                self.tell_depths(notes, detector, cut)
-            }
             None => Ok(()),
         }
     }

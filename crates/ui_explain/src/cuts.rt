@@ -1,16 +1,14 @@
 //! The state of a cut: what each process had done in it, and the messages on their way.
 
 use crate::explained::ExplainedSession;
+use crate::halts::new_words;
 use dbg_base::{Cut, Expr, Pid};
-use event_rows::{Event, Exchange};
 use least_cut::Detector;
-use local_eval::{Env, guard};
+use local_eval::Env;
 use std::alloc::AllocError;
+use ui_halt::{Crossing, find_crossing, find_part, message};
 use ui_text::{Notes, Part};
-use ui_view::{part_of, sending};
-
-// At most this many events before a cut are searched for the one since which a part holds.
-const SEARCHED: u32 = 1_000;
+use ui_view::{Wrapping, part_of};
 
 // At most this many messages of a channel are shown.
 const SHOWN: u32 = 12;
@@ -19,6 +17,9 @@ const SHOWN: u32 = 12;
 const EVENTS: usize = 18;
 
 const SINCE: usize = 26;
+
+// Where further lines of values begin.
+const INDENT: usize = 4;
 
 // Where the columns of the lines about processes begin.
 #[derive(Clone, Copy)]
@@ -40,21 +41,14 @@ impl CutColumns {
     }
 }
 
-// Since which event a part has held, as far as was searched.
-#[derive(Clone, Copy)]
-struct HeldSince {
-    event: u32,
-    is_exact: bool,
-}
-
 // Appends how many of the events of a process there are.
 fn put_share(notes: &mut Notes, count: u32, place: u32) -> Result<(), AllocError> {
     notes.add_with("{} of {}", &[Part::Natural(count), Part::Events(place)])
 }
 
 impl ExplainedSession<'_> {
-    // The local state of a process after its first events, so many. It is found from the nearer end of the events.
-    fn state_after(&self, pid: Pid, count: u32) -> Result<Env, AllocError> {
+    /// The local state of a process after its first events, so many. It is found from the nearer end of the events.
+    pub(crate) fn state_after(&self, pid: Pid, count: u32) -> Result<Env, AllocError> {
         let world = self.view.session.world;
         let place = world.place(pid);
         match world.local_state(pid) {
@@ -69,88 +63,20 @@ impl ExplainedSession<'_> {
         }
     }
 
-    // Goes back from the state of a process after so many events, at most a thousand events, to the first state in which its part holds, or
-    // does not hold. Returns after how many events that is, or None if no state is one.
-    fn search_back(
-        &self,
-        pid: Pid,
-        part: &Expr,
-        env: &mut Env,
-        count: u32,
-        holds: bool,
-    ) -> Option<u32> {
-        for at in (count.saturating_sub(SEARCHED)..count).rev() {
-            self.view
-                .session
-                .world
-                .rows()
-                .retreat(pid, at as usize, env);
-            if matches!(guard(part, env), Ok(true)) == holds {
-                return Some(at);
-            }
-        }
-        None
-    }
-
-    // Since when a part has held, which holds in this state of a process, after so many events.
-    fn held_since(
-        &self,
-        pid: Pid,
-        part: &Expr,
-        env: &Env,
-        count: u32,
-    ) -> Result<HeldSince, AllocError> {
-        let mut env = env.copy()?;
-        let event = match self.search_back(pid, part, &mut env, count, false) {
-            Some(at) => {
-                let event = at.saturating_add(1);
-                return Ok(HeldSince {
-                    event,
-                    is_exact: true,
-                });
-            }
-            None => count.saturating_sub(SEARCHED),
-        };
-        let is_exact = event == 0;
-        Ok(HeldSince { event, is_exact })
-    }
-
-    /// After how many events of a process, fewer than these, its part held last. None if it did not hold in the last thousand states before.
-    pub(crate) fn last_held(
-        &self,
-        pid: Pid,
-        part: &Expr,
-        below: u32,
-    ) -> Result<Option<u32>, AllocError> {
-        let Some(last) = below.checked_sub(1) else {
-            return Ok(None);
-        };
-        let mut env = self.state_after(pid, last)?;
-        if matches!(guard(part, &env), Ok(true)) {
-            return Ok(Some(last));
-        }
-        Ok(self.search_back(pid, part, &mut env, last, true))
-    }
-
-    // Appends since when the part of a process has held to the last line.
+    // Appends since when a part has held to the last line.
     fn put_since(
         &self,
         notes: &mut Notes,
-        detector: &Detector,
+        cut: &Cut,
         pid: Pid,
-        env: &Env,
-        count: u32,
+        part: &Expr,
     ) -> Result<(), AllocError> {
-        let Some(part) = part_of(detector, self.view.session.program, pid) else {
-            return Ok(());
-        };
-        let since = self.held_since(pid, part, env, count)?;
-        if since.event == 0 {
-            return notes.add("holds from the start");
+        let world = self.view.session.world;
+        match find_part(notes.alloc(), world, cut, pid, part)? {
+            Some(found) if found.since == 0 => notes.add("holds from the start"),
+            Some(found) => notes.add_with("holds since event {}", &[Part::Natural(found.since)]),
+            None => Ok(()),
         }
-        let event = Part::Natural(since.event);
-        let end = if since.is_exact { "" } else { " or earlier" };
-        notes.add_with("holds since event {}{}", &[event, Part::Text(end)])
     }
 
     // Says what a process has done in a cut.
@@ -159,32 +85,48 @@ impl ExplainedSession<'_> {
         notes: &mut Notes,
         detector: &Detector,
         columns: CutColumns,
+        cut: &Cut,
         pid: Pid,
-        count: u32,
     ) -> Result<(), AllocError> {
         let scope = self.view.scope(pid);
+        let count = cut.count(pid);
         let env = self.state_after(pid, count)?;
+        let part = part_of(detector, self.view.session.program, pid);
         notes.say_with("{}", &[scope.head()])?;
         notes.tab(columns.events)?;
         put_share(notes, count, self.view.session.world.place(pid))?;
-        notes.tab(columns.since)?;
-        self.put_since(notes, detector, pid, &env, count)?;
-        notes.tab(columns.values)?;
-        scope.put_variables(notes, &mut "", &env)
+        if let Some(part) = part {
+            notes.tab(columns.since)?;
+            self.put_since(notes, cut, pid, part)?;
+        }
+        let mut words = new_words(notes)?;
+        let mut word = "";
+        scope.put_variables(&mut words, &mut word, &env)?;
+        if let Some(part) = part {
+            scope.put_counts(&mut words, word, &env, part)?;
+        }
+        self.put_cut_values(notes, columns, &words)
     }
 
-    // The value of the message of this count from one process to another.
-    fn message(&self, source: Pid, target: Pid, count: u32) -> Option<i64> {
-        let world = self.view.session.world;
-        let sender = sending(world, source, target, count).checked_sub(1)?;
-        match world
-            .rows()
-            .event(source, sender as usize)
-            .map(Event::exchange)
-        {
-            Some(Exchange::Sent { value, .. }) => Some(value),
-            _ => None,
+    // Appends the values of a process to the last line, or puts them into new lines if they have no room there.
+    fn put_cut_values(
+        &self,
+        notes: &mut Notes,
+        columns: CutColumns,
+        words: &Notes,
+    ) -> Result<(), AllocError> {
+        let width = self.view.width;
+        if words.width() == 0 {
+            return Ok(());
         }
+        if columns.values.saturating_add(words.width()) <= width {
+            notes.tab(columns.values)?;
+        } else {
+            notes.say("")?;
+            notes.tab(INDENT)?;
+        }
+        let column = INDENT;
+        Wrapping { width, column }.put(notes, words.line(0).bytes)
     }
 
     // Says which messages of a channel cross a cut.
@@ -196,26 +138,39 @@ impl ExplainedSession<'_> {
         source: Pid,
         target: Pid,
     ) -> Result<(), AllocError> {
-        let tally = self.view.session.world.tally();
-        let got = tally.got(target, source, cut.count(target));
-        let sent = tally.sent(source, target, cut.count(source));
-        if sent <= got {
+        let Some(channel) = find_crossing(self.view.session.world, cut, source, target) else {
             return Ok(());
-        }
+        };
         let scope = self.view.scope(source);
+        let mut words = new_words(notes)?;
+        words.add_with("from {} to {}", &[scope.name(), scope.process(target)])?;
+        self.put_messages(&mut words, channel, SHOWN)?;
         notes.say("on the way")?;
         notes.tab(columns.events)?;
-        notes.add_with("from {} to {}", &[scope.name(), scope.process(target)])?;
+        let (width, column) = (self.view.width, columns.events);
+        Wrapping { width, column }.put(notes, words.line(0).bytes)
+    }
+
+    /// Appends the messages of a channel that are on their way to the last line: the first ones, at most so many.
+    pub(crate) fn put_messages(
+        &self,
+        notes: &mut Notes,
+        channel: Crossing,
+        most: u32,
+    ) -> Result<(), AllocError> {
+        let Crossing { source, target, .. } = channel;
+        let scope = self.view.scope(source);
         let mut word = ": ";
-        let last = sent.min(got.saturating_add(SHOWN));
-        for count in got..last {
-            if let Some(value) = self.message(source, target, count.saturating_add(1)) {
+        let last = channel.sent.min(channel.received.saturating_add(most));
+        for before in channel.received..last {
+            let count = before.saturating_add(1);
+            if let Some(value) = message(self.view.session.world, source, target, count) {
                 let value = scope.message_to(target, value);
                 notes.add_with("{}{}", &[Part::Text(word), value])?;
                 word = ", ";
             }
         }
-        let left_out = sent.saturating_sub(last);
+        let left_out = channel.sent.saturating_sub(last);
         if left_out > 0 {
             notes.add_with(" and {} more", &[Part::Natural(left_out)])?;
         }
@@ -233,7 +188,7 @@ impl ExplainedSession<'_> {
         let processes = self.view.session.program.processes();
         let columns = CutColumns::after(self.view.text.longest_name());
         for p in 0..processes {
-            self.tell_process_of_cut(notes, detector, columns, Pid(p), cut.count(Pid(p)))?;
+            self.tell_process_of_cut(notes, detector, columns, cut, Pid(p))?;
         }
         for p in 0..processes {
             for q in 0..processes {

@@ -6,8 +6,11 @@ mod answers;
 mod batches;
 mod breakpoints;
 mod cuts;
-mod depths;
 mod explained;
+mod halt_lanes;
+mod halt_words;
+mod halts;
+mod lane_columns;
 mod standing;
 
 pub use accepted::Before;

@@ -1,10 +1,14 @@
 //! The present state of a session.
 
 use crate::explained::ExplainedSession;
+use crate::halts::new_words;
 use dbg_base::{Choice, Direction, Name, Pid, Refusal};
 use std::alloc::{AllocError, Global};
 use ui_text::{Notes, Part};
-use ui_view::{EventNews, count_form, put_value};
+use ui_view::{EventNews, Wrapping, count_form, put_value};
+
+// Where further lines of values begin.
+const INDENT: usize = 4;
 
 // Processes, from the first of these numbers up to the second, without it.
 type Processes = (u32, u32);
@@ -110,7 +114,17 @@ impl ExplainedSession<'_> {
         let scope = self.view.scope(pid);
         let place = Part::Natural(self.view.session.world.place(pid));
         let line = Part::Natural(self.view.session.world.line_len(pid));
-        notes.say_with("{}, place {} of {}", &[scope.name(), place, line])?;
+        let mut words = new_words(notes)?;
+        words.add_with("{}, place {} of {}", &[scope.name(), place, line])?;
+        self.put_state(&mut words, pid)?;
+        notes.say("")?;
+        let (width, column) = (self.view.width, INDENT);
+        Wrapping { width, column }.put(notes, words.line(0).bytes)
+    }
+
+    // Appends the variables and counts of a process to the last line.
+    fn put_state(&self, notes: &mut Notes, pid: Pid) -> Result<(), AllocError> {
+        let scope = self.view.scope(pid);
         let Some(env) = self.view.session.world.local_state(pid) else {
             return Ok(());
         };

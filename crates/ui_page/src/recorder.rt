@@ -268,10 +268,7 @@ impl<'a> Recorder<'a> {
 
     /// This was said to the present line, and it has this reply.
     pub fn end_line(&mut self, session: SessionView<'_>, told: Told<'_>, reply: &[u8]) {
-        let view = SourceView {
-            session,
-            text: self.text,
-        };
+        let view = SourceView::new(session, self.text);
         if let Told::Said(call, Said::Accepted(accepted), taken_back) = told {
             let reported = self.put_all(view, call, accepted, change_by(call, taken_back));
             self.note(reported);

@@ -85,7 +85,7 @@ impl<'a> Artist<'a> {
     fn draw(&mut self, alloc: Global, session: SessionView<'_>) -> Result<(), AllocError> {
         let text = self.text;
         // The only refusal is that memory ran out.
-        let picture = picture_of(alloc, self.wanted, SourceView { session, text });
+        let picture = picture_of(alloc, self.wanted, SourceView::new(session, text));
         self.picture = Some(picture.ok().ok_or(AllocError)?);
         Ok(())
     }

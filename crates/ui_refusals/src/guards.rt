@@ -34,7 +34,7 @@ fn tell_members(
     if members.iter().any(|member| eval(member, env).is_err()) {
         notes.add(" faults")?;
     }
-    scope.put_values(notes, env, members)
+    scope.put_values(notes, ": ", env, members)
 }
 
 // Says which members of a part hold: those one after the other that do, or do not, are a line.

@@ -37,7 +37,7 @@ pub fn explain<R: Source, W: Sink>(
 // An interactive session that was opened.
 fn talk_open<R: Source + Typed, W: Sink>(
     alloc: Global,
-    width: usize,
+    width: Option<usize>,
     written: &WrittenProgram,
     session: OpenSession,
     reader: &mut R,
@@ -71,12 +71,12 @@ fn talk_open<R: Source + Typed, W: Sink>(
 /// `quit`: it is made plain, and played as `play` of `shell_serve` does. A command line has the reply that a run gives to it, in a model with
 /// the author's names and labels; without a seat it is one of seat 1. Directives (`help`, `on`, `how P N`, `draw`, `quit`, comments and others)
 /// make no call. A line that was not typed is written before its reply. Lines after the reply, which begin with two blanks, explain what the
-/// command did, or why the line is refused and what the person can do. A text that is not a program is refused, with an explanation. Pictures
-/// are so many characters wide.
+/// command did, or why the line is refused and what the person can do. A text that is not a program is refused, with an explanation. Lines
+/// are so many characters wide, if that is known.
 #[tactic(auto, using(crate::proofs::TalkLemmas::unopened_talks, crate::proofs::TalkLemmas::talks_report))]
 pub fn talk<R: Source + Typed, W: Sink>(
     alloc: Global,
-    width: usize,
+    width: Option<usize>,
     reader: &mut R,
     writer: &mut W,
 ) -> Result<Served, ServeFault>

@@ -8,7 +8,7 @@ use dbg_command::SessionView;
 use shell_parse::next_word;
 use std::alloc::{AllocError, Global};
 use ui_causes::CausalSession;
-use ui_diagram::{ALL_EVENTS, draw_text};
+use ui_diagram::{ALL_EVENTS, WIDTH, draw_text};
 use ui_explain::{Before, ExplainedSession};
 use ui_refusals::RefusingSession;
 use ui_text::{Notes, Part, tell_help, tell_to_file, tell_too_long};
@@ -29,8 +29,8 @@ pub struct Sentences<'a> {
     before: Before,
     is_prepared: bool,
     last_kind: LineKind,
-    // How many characters wide a picture is.
-    width: usize,
+    // How many characters wide a line is, if that is known.
+    width: Option<usize>,
     // How many bytes of explanations are left.
     left: usize,
 }
@@ -74,14 +74,22 @@ fn events_of(view: SessionView<'_>) -> usize {
 }
 
 // A session of this program, with its text.
-fn view_of<'b>(program: &'b WrittenProgram, session: SessionView<'b>) -> SourceView<'b> {
-    let text = program.text();
-    SourceView { session, text }
+fn view_of<'b>(
+    program: &'b WrittenProgram,
+    session: SessionView<'b>,
+    width: Option<usize>,
+) -> SourceView<'b> {
+    let view = SourceView::new(session, program.text());
+    match width {
+        Some(width) => SourceView { width, ..view },
+        None => view,
+    }
 }
 
 impl<'a> Sentences<'a> {
-    /// Explanations of a session of this program.
-    pub fn new(alloc: Global, program: &'a WrittenProgram, width: usize) -> Sentences<'a> {
+    /// Explanations of a session of this program, in lines of so many characters. If that is not known, words wrap at 80 columns, and pictures
+    /// are wider.
+    pub fn new(alloc: Global, program: &'a WrittenProgram, width: Option<usize>) -> Sentences<'a> {
         Sentences {
             program,
             before: Before::new(alloc),
@@ -106,7 +114,7 @@ impl<'a> Sentences<'a> {
         }
         match Name::new(word).and_then(|name| view.program.find_process(name)) {
             Some(pid) => self.program.tell_labels(notes, view.program, pid),
-            None => view_of(self.program, view).tell_processes(notes, word),
+            None => view_of(self.program, view, self.width).tell_processes(notes, word),
         }
     }
 
@@ -129,7 +137,7 @@ impl<'a> Sentences<'a> {
             return Ok(());
         }
         let refusing = RefusingSession {
-            view: view_of(self.program, view),
+            view: view_of(self.program, view, self.width),
         };
         refusing.tell_bad_line(notes, line, refusal)?;
         if *refusal == Refusal::BadLine {
@@ -155,10 +163,12 @@ impl<'a> Sentences<'a> {
         if !self.is_prepared {
             return Ok(());
         }
-        let view = view_of(self.program, view);
+        let view = view_of(self.program, view, self.width);
         let explained = ExplainedSession { view };
         match said {
-            Said::Accepted(reply) => explained.tell_reply(notes, &self.before, call, reply),
+            Said::Accepted(reply) => {
+                explained.tell_reply(notes, &self.before, call, said, reply)
+            }
             Said::Refused(refusal) => {
                 RefusingSession { view }.tell_refusal(notes, call, refusal)
             }
@@ -181,7 +191,8 @@ impl<'a> Sentences<'a> {
     // Draws the whole session.
     fn draw(&self, notes: &mut Notes, view: SourceView<'_>) -> Result<(), Refusal> {
         let selection = Selection::of(notes.alloc(), view, None, ALL_EVENTS as usize)?;
-        draw_text(notes.alloc(), notes, view, &selection, self.width)
+        let width = self.width.unwrap_or(WIDTH as usize);
+        draw_text(notes.alloc(), notes, view, &selection, width)
     }
 
     fn tell_directive(
@@ -194,7 +205,7 @@ impl<'a> Sentences<'a> {
         if self.program.tell_family(notes, directive.process())? {
             return Ok(());
         }
-        let view = view_of(self.program, view);
+        let view = view_of(self.program, view, self.width);
         let explained = ExplainedSession { view };
         match directive {
             Directive::Remark | Directive::Quit => Ok(()),
@@ -235,7 +246,7 @@ impl Explainer<Option<LineFault>> for Sentences<'_> {
     }
 
     fn prepare(&mut self, session: SessionView<'_>, call: &Call, notes: &mut Notes) {
-        let view = view_of(self.program, session);
+        let view = view_of(self.program, session, self.width);
         let explained = ExplainedSession { view };
         self.is_prepared = self.left > 0
             && explained.note_before(notes, &mut self.before, call).is_ok();

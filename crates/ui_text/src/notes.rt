@@ -150,8 +150,8 @@ impl Notes {
         }
     }
 
-    // How many bytes the last line has.
-    fn width(&self) -> usize {
+    /// How many bytes the last line has.
+    pub fn width(&self) -> usize {
         self.length.saturating_sub(self.last)
     }
 
@@ -323,6 +323,15 @@ impl Notes {
     /// Appends this text to the last line.
     pub fn add(&mut self, text: &str) -> Result<(), AllocError> {
         self.put_bytes(text.as_bytes())
+    }
+
+    /// Appends this text to the last line in a style, unless lines are plain.
+    pub fn add_in(&mut self, style: Style, text: &str) -> Result<(), AllocError> {
+        if self.has_styles {
+            self.put_styled(style, text.as_bytes())
+        } else {
+            self.add(text)
+        }
     }
 
     /// Appends this text to the last line, in which each `{}` is replaced by the next of these parts. The text has no other braces.

@@ -1,6 +1,7 @@
 //! What a breakpoint asks for, and how a session continues after it halted.
 
 use crate::view::SourceView;
+use crate::wrapping::Wrapping;
 use dbg_base::{Cut, Expr, Head, Name, Pid, Refusal};
 use least_cut::Detector;
 use proc_tree::Program;
@@ -46,17 +47,27 @@ impl<'a> SourceView<'a> {
         Ok(())
     }
 
+    // Lines of words of which further ones begin with two blanks.
+    fn wrapping(&self) -> Wrapping {
+        Wrapping {
+            width: self.width,
+            column: 2,
+        }
+    }
+
     // Says how many events of each process a cut has.
     fn tell_cut(&self, notes: &mut Notes, cut: &Cut) -> Result<(), AllocError> {
-        notes.say("it holds first after these events:")?;
+        let mut words = Notes::new(notes.alloc());
+        words.say("it holds first after these events:")?;
         let mut word = " ";
         for p in 0..self.session.program.processes() {
             let count = Part::Natural(cut.count(Pid(p)));
             let name = self.scope(Pid(p)).name();
-            notes.add_with("{}{} of {}", &[Part::Text(word), count, name])?;
+            words.add_with("{}{} of {}", &[Part::Text(word), count, name])?;
             word = ", ";
         }
-        Ok(())
+        notes.say("")?;
+        self.wrapping().put(notes, words.line(0).bytes)
     }
 
     /// Says that the part of a process does not hold yet, and which values make it false. It is false in the present state of the process,
@@ -98,8 +109,11 @@ impl<'a> SourceView<'a> {
         let Some(detector) = self.detector_of(name) else {
             return Ok(());
         };
+        let mut words = Notes::new(notes.alloc());
+        words.say("")?;
+        self.put_predicate(&mut words, name, detector)?;
         notes.say("")?;
-        self.put_predicate(notes, name, detector)?;
+        self.wrapping().put(notes, words.line(0).bytes)?;
         if let Some(cut) = detector.cut() {
             return Ok(self.tell_cut(notes, cut)?);
         }

@@ -5,7 +5,6 @@ use crate::view::SourceView;
 use causal_world::World;
 use dbg_base::{Direction, Pid};
 use event_rows::{Event, Exchange, Setting};
-use proc_tree::Program;
 use shell_io::Style;
 use std::alloc::AllocError;
 use ui_text::{Notes, Part, ProgramText};
@@ -17,6 +16,12 @@ const NUMBER: usize = 4;
 const MESSAGE: usize = 8;
 
 const SETTINGS: usize = 28;
+
+// The room of the place of a command, if a line is as wide as it can be.
+const PLACE: usize = 14;
+
+/// The gap between two columns.
+pub(crate) const GAP: usize = 2;
 
 // The number, from 1, of the first event of a process with which it has sent so many messages to another, or received so many from it. There
 // has to be one.
@@ -53,13 +58,13 @@ pub fn receiving(world: &World, target: Pid, source: Pid, count: u32) -> u32 {
     event_of(world, Direction::Got, target, source, count)
 }
 
-// Where the columns of a line about an event begin. A line whose text is longer than its column has the next one after two blanks.
+/// Where the columns of a line about an event begin. A line whose text is longer than its column has the next one after two blanks.
 #[derive(Clone, Copy)]
-struct EventColumns {
+pub(crate) struct EventColumns {
     has_messages: bool,
-    message: usize,
-    settings: usize,
-    command: usize,
+    pub(crate) message: usize,
+    pub(crate) settings: usize,
+    pub(crate) command: usize,
 }
 
 // The word before the number of an event. In a model, a reply names a command without a label by its number.
@@ -68,11 +73,11 @@ fn number_word(text: &ProgramText) -> &'static str {
 }
 
 impl EventColumns {
-    // The columns for a program with this text. One process alone has no messages.
-    fn of(program: &Program, text: &ProgramText) -> EventColumns {
-        let has_messages = program.processes() > 1;
-        let longest = text.longest_name();
-        let named = longest.saturating_add(number_word(text).len());
+    // The columns for a session. One process alone has no messages.
+    fn of(view: &SourceView<'_>) -> EventColumns {
+        let has_messages = view.session.program.processes() > 1;
+        let longest = view.text.longest_name();
+        let named = longest.saturating_add(number_word(view.text).len());
         let message = named.saturating_add(NUMBER);
         let settings = if has_messages {
             message.saturating_add(named).saturating_add(MESSAGE)
@@ -83,9 +88,19 @@ impl EventColumns {
             has_messages,
             message,
             settings,
-            command: settings.saturating_add(SETTINGS),
+            command: settings
+                .saturating_add(SETTINGS)
+                .min(view.width.saturating_sub(PLACE)),
         }
     }
+}
+
+/// An event of a process, and its number from 1.
+#[derive(Clone, Copy)]
+pub(crate) struct ShownEvent<'a> {
+    pub(crate) pid: Pid,
+    pub(crate) number: usize,
+    pub(crate) event: &'a Event,
 }
 
 // A message that an event of a process sent or received.
@@ -99,7 +114,8 @@ struct EventMessage {
 }
 
 impl ProcessView<'_> {
-    fn put_setting(
+    /// Appends a variable that was set, after this word: its value before, and the one after.
+    pub(crate) fn put_setting(
         &self,
         notes: &mut Notes,
         word: &'static str,
@@ -230,6 +246,26 @@ pub enum EventNews {
 }
 
 impl SourceView<'_> {
+    /// Begins a line about an event of a process: its number, and its message.
+    pub(crate) fn begin_event(
+        &self,
+        notes: &mut Notes,
+        columns: EventColumns,
+        shown: ShownEvent<'_>,
+    ) -> Result<(), AllocError> {
+        let scope = self.scope(shown.pid);
+        notes.begin_line(Style::Plain)?;
+        let word = Part::Text(number_word(self.text));
+        notes.add_with("{}{}{}", &[scope.head(), word, Part::Count(shown.number)])?;
+        if columns.has_messages {
+            notes.tab(columns.message)?;
+            if let Some(message) = scope.message_of(self.session.world, shown.event) {
+                scope.put_arrow(notes, message)?;
+            }
+        }
+        Ok(())
+    }
+
     /// Says what the n-th event of a process did, from 1: its process and number, the message, the variables that it set, and its command.
     /// All lines about events of a session have the same columns.
     pub fn tell_event(
@@ -244,16 +280,10 @@ impl SourceView<'_> {
             return Ok(());
         };
         let scope = self.scope(pid);
-        let columns = EventColumns::of(self.session.program, self.text);
-        notes.begin_line(Style::Plain)?;
-        let word = Part::Text(number_word(self.text));
-        notes.add_with("{}{}{}", &[scope.head(), word, Part::Count(number)])?;
-        if columns.has_messages {
-            notes.tab(columns.message)?;
-            if let Some(message) = scope.message_of(world, event) {
-                scope.put_arrow(notes, message)?;
-            }
-        }
+        let columns = EventColumns::of(self);
+        let lines = notes.count();
+        let shown = ShownEvent { pid, number, event };
+        self.begin_event(notes, columns, shown)?;
         notes.tab(columns.settings)?;
         if news == EventNews::Undone {
             notes.add("undone: ")?;
@@ -261,6 +291,11 @@ impl SourceView<'_> {
         scope.put_settings(notes, event)?;
         notes.tab_in(Style::Place, columns.command)?;
         let place = Part::Bytes(self.text.shown_place(pid, event.choice()));
-        notes.add_with("{}", &[place])
+        notes.add_with("{}", &[place])?;
+        if notes.width() <= self.width {
+            return Ok(());
+        }
+        notes.truncate(lines);
+        self.tell_long_event(notes, news, columns, shown)
     }
 }

@@ -34,7 +34,7 @@ impl ProcessView<'_> {
         let part = faulting_part(expr, env);
         if self.text.is_model() && part.is_some_and(is_range_check) {
             notes.add("a field of a message is outside its range")?;
-            return self.put_values(notes, env, &[expr]);
+            return self.put_values(notes, ": ", env, &[expr]);
         }
         self.put_shortened(notes, expr)?;
         notes.add(" faults")?;
@@ -42,7 +42,7 @@ impl ProcessView<'_> {
             notes.add(" at ")?;
             self.put_shortened(notes, part)?;
         }
-        self.put_values(notes, env, &[expr])
+        self.put_values(notes, ": ", env, &[expr])
     }
 
     /// Appends an expression that does not hold, since it is false or faults, and the values of the names in it to the last line. Of a

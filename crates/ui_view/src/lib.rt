@@ -12,10 +12,12 @@ mod expressions;
 mod finding;
 mod hindrance;
 mod hindrances;
+mod long_events;
 mod parts;
 mod replies;
 mod values;
 mod view;
+mod wrapping;
 
 pub use breakpoints::part_of;
 pub use counted::{BreakpointChange, CountedCommand, CountedCommands};
@@ -28,3 +30,4 @@ pub use hindrance::Hindrance;
 pub use replies::{LabelPlace, NamedReply, ValuePlace, named_refusal, named_reply};
 pub use values::{NamedValue, names, names_variable, put_value};
 pub use view::SourceView;
+pub use wrapping::Wrapping;

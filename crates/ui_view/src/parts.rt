@@ -105,6 +105,6 @@ impl ProcessView<'_> {
         } else {
             " are false"
         })?;
-        self.put_values(notes, env, failing.as_slice())
+        self.put_values(notes, ": ", env, failing.as_slice())
     }
 }

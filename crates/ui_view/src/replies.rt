@@ -29,6 +29,15 @@ pub struct NamedReply {
     pub values: Vec<ValuePlace>,
 }
 
+/// The name of a breakpoint: in a model, with its indices in brackets.
+pub(crate) fn breakpoint_part<'a>(text: &ProgramText, name: Name) -> Part<'a> {
+    if text.is_model() {
+        Part::Indexed(name)
+    } else {
+        Part::Name(name)
+    }
+}
+
 // A reply that is being written.
 #[derive(Drop)]
 struct ReplyWords<'a> {
@@ -116,8 +125,8 @@ impl ReplyWords<'_> {
 
     // Appends a word and a breakpoint.
     fn put_breakpoint(&mut self, word: &'static str, name: Name) -> Result<(), AllocError> {
-        self.notes
-            .add_with("{} {}", &[Part::Text(word), Part::Indexed(name)])
+        let name = breakpoint_part(self.text, name);
+        self.notes.add_with("{} {}", &[Part::Text(word), name])
     }
 
     // Appends the number of a refusal, and what it contains.
@@ -189,8 +198,8 @@ impl ReplyWords<'_> {
         self.notes.add("breaks")?;
         for (name, is_armed) in marks {
             let mark = Part::Text(if *is_armed { "on" } else { "off" });
-            self.notes
-                .add_with(" {} {}", &[Part::Indexed(*name), mark])?;
+            let name = breakpoint_part(self.text, *name);
+            self.notes.add_with(" {} {}", &[name, mark])?;
         }
         Ok(())
     }

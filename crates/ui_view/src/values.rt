@@ -79,11 +79,12 @@ impl ProcessView<'_> {
         Ok(())
     }
 
-    /// Appends the values of the variables and counts that expressions name to the last line. Names that differ in an index, and have the same
-    /// value, are one with a range.
+    /// Appends the values of the variables and counts that expressions name to the last line: the first one after this word. Names that differ
+    /// in an index, and have the same value, are one with a range.
     pub fn put_values(
         &self,
         notes: &mut Notes,
+        word: &'static str,
         env: &Env,
         expressions: &[&Expr],
     ) -> Result<(), AllocError> {
@@ -98,7 +99,23 @@ impl ProcessView<'_> {
         }
         self.tell_counts(&mut values, env, expressions, Direction::Sent)?;
         self.tell_counts(&mut values, env, expressions, Direction::Got)?;
-        put_folded(notes, ": ", &values)?;
+        put_folded(notes, word, &values)?;
+        Ok(())
+    }
+
+    /// Appends the counts that an expression names, and their values, to the last line: the first one after this word, and the others after a
+    /// comma.
+    pub fn put_counts(
+        &self,
+        notes: &mut Notes,
+        word: &'static str,
+        env: &Env,
+        expr: &Expr,
+    ) -> Result<(), AllocError> {
+        let mut counts = Notes::new(notes.alloc());
+        self.tell_counts(&mut counts, env, &[expr], Direction::Sent)?;
+        self.tell_counts(&mut counts, env, &[expr], Direction::Got)?;
+        put_folded(notes, word, &counts)?;
         Ok(())
     }
 
