@@ -34,6 +34,7 @@ for (line, column), fault, _ in parser.errors:
 """
 GOLDEN_PAGE = TOP / "docs" / "two_phase_commit.html"
 MANY_EVENTS = 2_010
+SHOWN_IN_TEXT = 60  # events, at most
 DRAWN_EVENTS = 2_000  # at most, unless `--last` says more
 MANY_BREAKPOINTS, MANY_PROCESSES = 64, 32
 BYTES_OF_A_LINE = 150  # at most, in the page of so many breakpoints, on average
@@ -147,6 +148,18 @@ def long_drawing_problem(suite, room):
     yield from [] if whole.events() == MANY_EVENTS else [f"{whole.events()} events are drawn where --last asks for all"]
 
 
+def early_cut_problem(suite, room):
+    """What is wrong with the text of a session whose halt is long before its last events."""
+    file = room / "early_cut.rdbg"
+    file.write_text(counting_process("a") + "%%\n" + SHOWN_IN_TEXT * "1 next a\n" + 10 * "1 next a\n" + "1 break early a (x = 1)\n")
+    lines = draw(suite, "text", file).decode().splitlines()
+    cuts = [at for at, line in enumerate(lines) if line.startswith("##")]
+    events = [line for line in lines if line.startswith("o ")]
+    yield from [] if len(cuts) == 1 else [f"the line of the cut is there {len(cuts)} times"]
+    yield from [] if len(events) == 7 and events[-1].startswith("o 7:") else [f"the events are {events}"]
+    yield from [] if f".. {SHOWN_IN_TEXT + 3} later events are left out" in lines else ["it does not say how many are left out"]
+
+
 def shared_searches_problem(suite, room):
     """What is wrong with the page of many breakpoints whose searches go on at each event: it has what they share once."""
     file, names = room / "many_breakpoints.rdbg", [f"p{number}" for number in range(MANY_PROCESSES)]
@@ -188,6 +201,7 @@ def run(suite):
     check_page_of_documents(suite)
     with temporary_folder() as room:
         suite.attempt("a drawing of many events", joined_problems, long_drawing_problem, suite, room)
+        suite.attempt("the text of an early cut", joined_problems, early_cut_problem, suite, room)
         suite.attempt("a page of many breakpoints", joined_problems, shared_searches_problem, suite, room)
         random_files = [room / f"random_{number}.rdbg" for number in range(RANDOM_SESSIONS)]
         for number, file in enumerate(random_files):

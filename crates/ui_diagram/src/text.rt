@@ -16,6 +16,9 @@ use words::{TextScene, words};
 // The most events that are shown.
 const SHOWN: usize = 60;
 
+// At most so many events after the cut that halts the session are shown, if that would not be in view among the last events.
+const AFTER: usize = 6;
+
 /// How many characters wide a diagram is, if no other width is named.
 pub const WIDTH: u32 = 120;
 
@@ -269,7 +272,16 @@ impl TextSheet<'_> {
         Ok(())
     }
 
-    // The events after the first ones, with the cuts.
+    // How many events after those that are shown are left out, if there are some.
+    fn say_later(&self, notes: &mut Notes, later: &[ShownEvent]) -> Result<(), AllocError> {
+        match self.scene.selection.count(later) {
+            0 => Ok(()),
+            1 => notes.say(".. 1 later event is left out"),
+            count => notes.say_with(".. {} later events are left out", &[Part::Count(count)]),
+        }
+    }
+
+    // These events, which come after so many others, with the cuts.
     fn say_events(
         &self,
         notes: &mut Notes,
@@ -278,7 +290,7 @@ impl TextSheet<'_> {
         cuts: &[NamedCut],
     ) -> Result<(), AllocError> {
         let mut place = first;
-        for shown in events.get(first..).unwrap_or(&[]) {
+        for shown in events {
             self.say_cuts_across(notes, place, cuts)?;
             if self.scene.selection.contains(shown.pid) {
                 self.say_event(notes, *shown)?;
@@ -290,9 +302,30 @@ impl TextSheet<'_> {
     }
 }
 
+// Which events are shown: those from the first of these positions up to the second. They are the last ones, or those around the cut that halts
+// the session, if that would not be in view.
+fn window(
+    timeline: &Timeline,
+    selection: &Selection,
+    cuts: &[NamedCut],
+    processes: u32,
+) -> (usize, usize) {
+    let all = timeline.events().len();
+    let most = selection.last().min(SHOWN);
+    let first = timeline.left_out_of(selection, most);
+    match halting(cuts) {
+        Some(cut) if cut.is_prefix && size(&cut.cut, processes) < first => {
+            let after = AFTER.min(most / 2);
+            let to = size(&cut.cut, processes).saturating_add(after).min(all);
+            (to.saturating_sub(most), to)
+        }
+        _ => (first, all),
+    }
+}
+
 /// Draws a session in its present state. Each process has a column with its events downward, each with its number, its command and what it
 /// set. There are arrows for the messages, also for those on their way, the redo lines in brackets, and lines across for the cuts of
-/// breakpoints. Only the events of the processes of the selection are shown, and the last of them. The columns are as wide as they need to
+/// breakpoints. Only the events of the processes of the selection are shown, and the last of them, or those around the cut of a halt. The columns are as wide as they need to
 /// be, but for more than eight characters each at most so wide that all are within this width.
 pub fn draw_text(
     alloc: Global,
@@ -304,14 +337,15 @@ pub fn draw_text(
     let mut cuts = named_cuts(alloc, view)?;
     let timeline = Timeline::of(alloc, view.session.world, cuts.as_mut_slice())?;
     let events = timeline.events();
-    let first = timeline.left_out_of(selection, selection.last().min(SHOWN));
+    let processes = view.session.program.processes();
+    let (first, to) = window(&timeline, selection, cuts.as_slice(), processes);
     let scene = TextScene {
         alloc,
         view,
         selection,
         timeline: &timeline,
     };
-    let shown = timeline.last_events(first);
+    let shown = events.get(first..to).unwrap_or(&[]);
     let canvas = scene.canvas(shown, cuts.as_slice(), width)?;
     let sheet = TextSheet {
         scene,
@@ -324,7 +358,8 @@ pub fn draw_text(
     sheet.say_names(notes)?;
     sheet.say_lines(notes)?;
     sheet.say_first_parts(notes, cuts.as_slice(), left)?;
-    sheet.say_events(notes, events, first, cuts.as_slice())?;
+    sheet.say_events(notes, shown, first, cuts.as_slice())?;
+    sheet.say_later(notes, events.get(to..).unwrap_or(&[]))?;
     sheet.say_all_waiting(notes)?;
     sheet.say_again(notes)?;
     Ok(sheet.say_lines(notes)?)
