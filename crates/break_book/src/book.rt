@@ -39,10 +39,7 @@ pub struct Book {
 
 impl Drop for Book {
     fn drop(self) {
-        let Book {
-            breaks: _,
-            halting: _,
-        } = self;
+        let Self { breaks, halting } = self;
     }
 }
 

@@ -20,10 +20,7 @@ pub struct Breakpoint {
 
 impl Drop for Breakpoint {
     fn drop(self) {
-        let Breakpoint {
-            armed: _,
-            detector: _,
-        } = self;
+        let Self { armed, detector } = self;
     }
 }
 

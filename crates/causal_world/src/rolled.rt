@@ -38,7 +38,7 @@ pub struct Rolled {
 
 impl Drop for Rolled {
     fn drop(self) {
-        let Rolled { taken: _, last: _ } = self;
+        let Self { taken, last } = self;
     }
 }
 

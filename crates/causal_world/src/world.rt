@@ -50,11 +50,11 @@ pub struct World {
 
 impl Drop for World {
     fn drop(self) {
-        let World {
-            lines: _,
-            envs: _,
-            grid: _,
-            past: _,
+        let Self {
+            lines,
+            envs,
+            grid,
+            past,
         } = self;
     }
 }

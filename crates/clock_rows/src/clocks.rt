@@ -19,10 +19,7 @@ pub struct Clocks {
 
 impl Drop for Clocks {
     fn drop(self) {
-        let Clocks {
-            histories: _,
-            next: _,
-        } = self;
+        let Self { histories, next } = self;
     }
 }
 

@@ -21,7 +21,7 @@ pub struct Tally {
 
 impl Drop for Tally {
     fn drop(self) {
-        let Tally { histories: _ } = self;
+        let Self { histories } = self;
     }
 }
 

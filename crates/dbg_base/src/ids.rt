@@ -30,7 +30,7 @@ pub struct Cut {
 
 impl Drop for Cut {
     fn drop(self) {
-        let Cut { counts: _ } = self;
+        let Self { counts } = self;
     }
 }
 

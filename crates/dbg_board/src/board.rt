@@ -24,7 +24,7 @@ pub struct Board {
 
 impl Drop for Board {
     fn drop(self) {
-        let Board { word: _ } = self;
+        let Self { word } = self;
     }
 }
 

@@ -20,7 +20,7 @@ pub struct Publisher {
 
 impl Drop for Publisher {
     fn drop(self) {
-        let Publisher { word: _, seat: _ } = self;
+        let Self { word, seat } = self;
     }
 }
 

@@ -10,7 +10,7 @@ pub struct SeatView {
 
 impl Drop for SeatView {
     fn drop(self) {
-        let SeatView { seat: _ } = self;
+        let Self { seat } = self;
     }
 }
 

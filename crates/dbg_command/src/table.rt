@@ -26,7 +26,7 @@ pub struct Table {
 
 impl Drop for Table {
     fn drop(self) {
-        let Table { world: _, book: _ } = self;
+        let Self { world, book } = self;
     }
 }
 

@@ -18,11 +18,7 @@ pub struct Entry {
 
 impl Drop for Entry {
     fn drop(self) {
-        let Entry {
-            seat: _,
-            call: _,
-            said: _,
-        } = self;
+        let Self { seat, call, said } = self;
     }
 }
 
@@ -36,7 +32,7 @@ pub struct RecordedCall {
 
 impl Drop for RecordedCall {
     fn drop(self) {
-        let RecordedCall { call: _, said: _ } = self;
+        let Self { call, said } = self;
     }
 }
 

@@ -22,10 +22,10 @@ pub struct Event {
 
 impl Drop for Event {
     fn drop(self) {
-        let Event {
-            choice: _,
-            settings: _,
-            exchange: _,
+        let Self {
+            choice,
+            settings,
+            exchange,
         } = self;
     }
 }

@@ -27,10 +27,7 @@ pub struct Rows {
 
 impl Drop for Rows {
     fn drop(self) {
-        let Rows {
-            starts: _,
-            histories: _,
-        } = self;
+        let Self { starts, histories } = self;
     }
 }
 

@@ -18,7 +18,7 @@ pub struct Grid {
 
 impl Drop for Grid {
     fn drop(self) {
-        let Grid { rows: _ } = self;
+        let Self { rows } = self;
     }
 }
 

@@ -46,10 +46,10 @@ pub struct Detector {
 
 impl Drop for Detector {
     fn drop(self) {
-        let Detector {
-            watches: _,
-            candidates: _,
-            trail: _,
+        let Self {
+            watches,
+            candidates,
+            trail,
         } = self;
     }
 }

@@ -21,11 +21,7 @@ pub struct Env {
 
 impl Drop for Env {
     fn drop(self) {
-        let Env {
-            values: _,
-            sent: _,
-            got: _,
-        } = self;
+        let Self { values, sent, got } = self;
     }
 }
 

@@ -32,10 +32,10 @@ pub struct Expansion {
 
 impl Drop for Expansion {
     fn drop(self) {
-        let Expansion {
-            model: _,
-            source: _,
-            built: _,
+        let Self {
+            model,
+            source,
+            built,
         } = self;
     }
 }

@@ -50,10 +50,10 @@ pub struct Process {
 
 impl Drop for Process {
     fn drop(self) {
-        let Process {
-            name: _,
-            variables: _,
-            commands: _,
+        let Self {
+            name,
+            variables,
+            commands,
         } = self;
     }
 }

@@ -18,7 +18,7 @@ pub struct Program {
 
 impl Drop for Program {
     fn drop(self) {
-        let Program { processes: _ } = self;
+        let Self { processes } = self;
     }
 }
 

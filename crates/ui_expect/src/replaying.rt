@@ -56,15 +56,15 @@ struct Replayer<'a> {
 
 impl Drop for Replayer<'_> {
     fn drop(self) {
-        let Replayer {
-            alloc: _,
-            names: _,
-            text: _,
-            number: _,
-            explanation: _,
-            outcomes: _,
-            before: _,
-            report: _,
+        let Self {
+            alloc,
+            names,
+            text,
+            number,
+            explanation,
+            outcomes,
+            before,
+            report,
         } = self;
     }
 }

@@ -50,15 +50,15 @@ struct Tester<'a> {
 
 impl Drop for Tester<'_> {
     fn drop(self) {
-        let Tester {
-            explanation: _,
-            alloc: _,
-            name: _,
-            written: _,
-            number: _,
-            asked: _,
-            lines: _,
-            report: _,
+        let Self {
+            explanation,
+            alloc,
+            name,
+            written,
+            number,
+            asked,
+            lines,
+            report,
         } = self;
     }
 }

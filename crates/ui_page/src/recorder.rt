@@ -68,13 +68,13 @@ pub struct Recorder<'a> {
 
 impl Drop for Recorder<'_> {
     fn drop(self) {
-        let Recorder {
-            alloc: _,
-            text: _,
-            lines: _,
-            breakpoints: _,
-            before: _,
-            incomplete: _,
+        let Self {
+            alloc,
+            text,
+            lines,
+            breakpoints,
+            before,
+            incomplete,
         } = self;
     }
 }

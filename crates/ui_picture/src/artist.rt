@@ -56,10 +56,10 @@ pub(crate) struct Artist<'a> {
 
 impl Drop for Artist<'_> {
     fn drop(self) {
-        let Artist {
-            wanted: _,
-            text: _,
-            picture: _,
+        let Self {
+            wanted,
+            text,
+            picture,
         } = self;
     }
 }

@@ -26,15 +26,15 @@ pub struct NamedCut {
 
 impl Drop for NamedCut {
     fn drop(self) {
-        let NamedCut {
-            name: _,
-            is_indexed: _,
-            place: _,
-            cut: _,
-            halts: _,
-            is_prefix: _,
-            pids: _,
-            parts: _,
+        let Self {
+            name,
+            is_indexed,
+            place,
+            cut,
+            halts,
+            is_prefix,
+            pids,
+            parts,
         } = self;
     }
 }

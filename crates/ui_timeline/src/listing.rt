@@ -32,10 +32,10 @@ pub struct Timeline {
 
 impl Drop for Timeline {
     fn drop(self) {
-        let Timeline {
-            events: _,
-            rows: _,
-            messages: _,
+        let Self {
+            events,
+            rows,
+            messages,
         } = self;
     }
 }

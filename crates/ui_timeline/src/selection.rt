@@ -17,11 +17,7 @@ pub struct Selection {
 
 impl Drop for Selection {
     fn drop(self) {
-        let Selection {
-            pids: _,
-            shown: _,
-            last: _,
-        } = self;
+        let Self { pids, shown, last } = self;
     }
 }
 

@@ -23,11 +23,7 @@ pub struct TimedEvent {
 
 impl Drop for TimedEvent {
     fn drop(self) {
-        let TimedEvent {
-            pid: _,
-            number: _,
-            clock: _,
-        } = self;
+        let Self { pid, number, clock } = self;
     }
 }
 

@@ -75,13 +75,13 @@ pub struct CountedCommands {
 
 impl Drop for CountedCommands {
     fn drop(self) {
-        let CountedCommands {
-            text: _,
-            commands: _,
-            written: _,
-            sources: _,
-            is_open: _,
-            is_whole: _,
+        let Self {
+            text,
+            commands,
+            written,
+            sources,
+            is_open,
+            is_whole,
         } = self;
     }
 }
