@@ -7,7 +7,9 @@ from harness import Fault
 ALL_PROCESSES, START = "all processes", "start of the session"
 VARIABLES, EVENT_CLOCK, CUT, MESSAGES = "variables after it", "its clock", "state in the cut", "on their way"
 CROSSING = "messages that cross the cut"
-CONTROLS = {"first", "before", "play", "next", "last", "slider", "narrower", "wider", "fit", "code", "choose", "copy", "save", "search", "details"}
+CONTROLS = {
+    "first", "before", "play", "next", "last", "slider", "narrower", "wider", "fit", "code", "choose", "text", "copy", "save", "search", "beside", "above",
+    "details"}
 
 def check_line(page, expected, n):
     """What the page shows of line n, and of the state after some lines."""
@@ -111,7 +113,7 @@ def check_enter(page):
         if kind in ("breakpoint", "event", "start") and kind not in tried:
             tried.add(kind)
             page.press("Enter")
-            page.expect("the heading after Enter", page.at["heading"].replace("halted by", "breakpoint"), stop.split(": command")[0])
+            page.expect("the heading after Enter", page.at["heading"].replace("halted by", "breakpoint"), stop.split(": ")[0])
             page.press("Escape")
             page.expect("the focus after Escape", page.at["focus"], stop)
         if stop == "details":

@@ -24,12 +24,14 @@ def data_text(page):
 
 
 def read_page(page):
-    """The data of a page: its processes, the text of the program, and the lines, each with its reply and its operations."""
+    """The data of a page: its processes, the text of the program, and the lines, each with its reply and its operations. And by the numbers of
+    lines, the explanations that some have."""
     texts = data_text(page).splitlines()
     data, *values = [json.loads(re.sub("[\u0100-\u01ff]", byte_of, text)) for text in texts]
     operations = {number: made for number, *made in values if isinstance(number, int)}
     shown = [value for value in values if isinstance(value[0], str)]
-    data["lines"] = [[decoded(line), decoded(reply), *operations.get(number, [])] for number, (line, reply) in enumerate(shown, 1)]
+    data["lines"] = [[decoded(line), decoded(reply), *operations.get(number, [])] for number, (line, reply, *_) in enumerate(shown, 1)]
+    data["explained"] = {number: decoded(texts[0]).splitlines() for number, (_, _, *texts) in enumerate(shown, 1) if texts}
     return data
 
 

@@ -1,5 +1,5 @@
 """The sources of the page, and the Rattle files that have them: crates/ui_page/page/page.html, where a line `{{FILE}}` includes a file of its
-folder, and `{{session}}` is where the session comes."""
+folder, and `{{drawing}}` and `{{session}}` are where these come."""
 import re
 
 from harness import TOP
@@ -7,7 +7,7 @@ from harness import TOP
 SOURCES = TOP / "crates/ui_page/page"
 GENERATED = TOP / "crates/ui_page/src/page"
 INCLUDE = re.compile(r"^\{\{([a-z_]+\.(?:css|js))\}\}\n", re.MULTILINE)
-SESSION = "{{session}}\n"
+DRAWING, SESSION = "{{drawing}}\n", "{{session}}\n"
 LINES = 360  # of a generated file, unless one included file alone has more
 NOTICE = "//! `tests/run page_sources --update` writes this file from `page/page.html` and what that includes.\n"
 
@@ -18,19 +18,19 @@ def with_includes(template):
     for found in INCLUDE.finditer(template):
         pieces.append(template[at:found.start()] + (SOURCES / found[1]).read_text(encoding="utf-8"))
         at = found.end()
-    pieces[-1] += template[at:]
-    return pieces
+    return [*pieces[:-1], pieces[-1] + template[at:]] if pieces else [template]
 
 
 def page_parts():
-    """The page before its session and after it, each as pieces."""
-    before, after = (SOURCES / "page.html").read_text(encoding="utf-8").split(SESSION)
-    return with_includes(before), with_includes(after)
+    """The page before its drawing, between that and its session, and after it, each as pieces."""
+    before, rest = (SOURCES / "page.html").read_text(encoding="utf-8").split(DRAWING)
+    between, after = rest.split(SESSION)
+    return {"before": with_includes(before), "between": with_includes(between), "after": with_includes(after)}
 
 
 def script():
     """The script of the page, which is one function."""
-    return re.search(r"<script>\n(.*?)</script>", "".join(page_parts()[1]), re.DOTALL)[1]
+    return re.search(r"<script>\n(.*?)</script>", "".join(page_parts()["after"]), re.DOTALL)[1]
 
 
 def packed(pieces):
@@ -44,14 +44,15 @@ def packed(pieces):
 
 
 def generated():
-    """What each Rattle file has to be, by its name without the ending: the texts, and two functions that return them in order."""
+    """What each Rattle file has to be, by its name without the ending: the texts, and the functions that return them in order."""
+    what = {"before": "before its drawing", "between": "between its drawing and its session", "after": "after its session"}
     files, modules, functions = {}, [], []
-    for side, pieces in zip(("before", "after"), page_parts()):
+    for side, pieces in page_parts().items():
         texts = {f"{side}_{number}": text for number, text in enumerate(packed(pieces), 1)}
         files |= {name: f'{NOTICE}\npub(super) static TEXT: &str = r#"{text}"#;\n' for name, text in texts.items()}
         modules += [f"mod {name};\n" for name in texts]
         items = "".join(f"        {name}::TEXT,\n" for name in texts)
         array = f"    [\n{items}    ]\n" if len(texts) > 1 else f"    [{next(iter(texts))}::TEXT]\n"
-        functions.append(f"\n/// The page {side} its session.\npub(super) fn {side}() -> [&'static str; {len(texts)}] {{\n{array}}}\n")
+        functions.append(f"\n/// The page {what[side]}.\npub(super) fn {side}() -> [&'static str; {len(texts)}] {{\n{array}}}\n")
     sources = "".join([NOTICE, "\n", *sorted(modules), *functions])
     return {"sources": sources, **{f"sources/{name}": text for name, text in files.items()}}

@@ -17,7 +17,10 @@ def run_checks(page, expected, session):
     check_fit(page)
     check_hidden(page, expected)
     check_pointer(page)
+    check_message(page)
+    check_splitters(page)
     check_selection(page)
+    check_copied_text(page)
     check_saved_drawing(page, expected)
     check_program(page, session)
     check_contrast(page)
@@ -108,6 +111,15 @@ def check_cut_states(page, expected, session):
 # -- Causes -------------------------------------------------------------------------------------------------------------------------------
 
 CHOSEN_EVENTS = 8  # at most, after the last line
+CHAINS = "shortest chain of messages from"
+
+
+def chain_lengths(session, name, n):
+    """How many messages the shortest chain from each process to an event has, by the answer to `how`."""
+    answer = session.run([*session.calls.values(), f"how {name} {n}"], "talk")
+    notes = " ".join(line.strip() for line in answer[answer.index(f"how {name} {n}") + 1:])
+    chains = re.findall(r"\bfrom (\w+)  +(\1 .*?)(?=\bfrom \w+  |\bto undo it|$)", notes)
+    return {process: len(re.findall(r"-\S+-> ", chain)) for process, chain in chains}
 
 
 def check_causes(page, expected, session):
@@ -119,6 +131,8 @@ def check_causes(page, expected, session):
         page.browser.evaluate(f"location.hash = '{last}:{name}:{n}'")
         page.at = page.look()
         before = sum(int(count) for _, count in page.table("its clock")) - 1
+        chains = {process: chain.count("\u2192") for process, chain in page.table(CHAINS)}
+        page.expect(f"the chains to event {n} of {name}", chains, chain_lengths(session, name, n))
         undoing = page.browser.evaluate("(part => part && [part.textContent, part.querySelector('code').textContent])(document.querySelector('.undoing'))")
         if not undoing:
             page.fault(f"event {n} of {name} has no command that undoes it")
@@ -272,6 +286,41 @@ def check_selection(page):
     page.browser.evaluate("getSelection().removeAllRanges()")
 
 
+def check_message(page):
+    """A click on an arrow chooses its message, of which the address is a part."""
+    page.press("End")
+    arrow = "[...document.querySelectorAll('.arrow:not(.gone)')][0]"
+    if not page.browser.evaluate(f"Boolean({arrow})"):
+        return
+    title = page.browser.evaluate(f"{arrow}.querySelector('title').textContent")
+    page.browser.evaluate(f"{arrow}.dispatchEvent(new MouseEvent('click', {{bubbles: true}}))")
+    page.at = page.look()
+    page.expect("the heading after a click on an arrow", page.at["heading"], title)
+    page.browser.evaluate("new Promise(done => setTimeout(done, 400))")
+    page.at = page.look()
+    if not re.fullmatch(r"\d+:\w+:\w+:\d+", page.at["hash"]):
+        page.fault(f"the address of a message is {page.at['hash']!r}")
+    page.press("Escape")
+
+
+def check_splitters(page):
+    """Arrow keys on the bars between the areas make these larger and smaller."""
+    sizes = {"beside": ("ArrowRight", "ArrowLeft", "lines", "offsetWidth"), "above": ("ArrowUp", "ArrowDown", "below", "offsetHeight")}
+    for bar, (more, less, area, side) in sizes.items():
+        if not page.tab_to(bar):
+            return
+        measure = f"document.getElementById('{area}').{side}"
+        before, line = page.browser.evaluate(measure), page.at["line"]
+        page.press(more)
+        larger = page.browser.evaluate(measure)
+        page.press(less)
+        after = page.browser.evaluate(measure)
+        if not after < larger:
+            page.fault(f"{more} on {bar} makes {area} {larger} instead of {before}, and {less} {after}")
+        page.expect(f"the line after keys on {bar}", page.at["line"], line)
+    page.tab_to("lines", shift=True)
+
+
 # -- Copies -------------------------------------------------------------------------------------------------------------------------------
 
 def check_saved_drawing(page, expected):
@@ -288,6 +337,17 @@ def check_saved_drawing(page, expected):
     page.expect("the saved drawing", found[:3], ["svg", events, False])
     if not re.fullmatch(r"[\w.-]+-line-\d+\.svg", found[3]):
         page.fault(f"the name of the saved drawing is {found[3]}")
+
+
+def check_copied_text(page):
+    """The copied text has the line, and each heading and each row of the details."""
+    page.browser.evaluate("navigator.clipboard.writeText = async text => { window.copied = text; }")
+    click_at(page, "document.getElementById('text')")
+    copied = page.browser.evaluate("window.copied").split()
+    rows = [cell for _, rows in page.at["tables"] for row in rows for cell in row]
+    for text in [*page.at["said"], *page.at["headings"], *rows]:
+        if not {*text.split()} <= {*copied}:
+            page.fault(f"the copied text does not have {text!r}")
 
 
 def check_program(page, session):

@@ -34,6 +34,7 @@ CLOCK = (HARNESS / "page_clock.js").read_text()
 PASSES = [(1366, 768, "light", "ArrowDown"), (1366, 768, "dark", "ArrowUp"), (1280, 720, "light", "ArrowRight"), (1280, 720, "dark", "ArrowLeft")]
 TOOL_PASSES = [(1366, 768, "light"), (1920, 1080, "dark")]
 NARROW = (390, 844, "dark")
+LOW = (683, 384, "light")  # a small laptop at a zoom of 200 %
 SHOWN_FAULTS = 12
 
 
@@ -82,6 +83,16 @@ def check_narrow(page, expected, first_views):
     check_contrast(page)
 
 
+def check_low(page, expected, first_views):
+    """In a low window the drawing has most of it, and the page scrolls to what is below."""
+    if expected.halts:
+        first_views.append(missing_at_opening(page, expected) == 0)
+    high, whole = page.browser.evaluate("[document.getElementById('drawing').clientHeight, document.documentElement.scrollHeight]")
+    if high < 220 or whole <= LOW[1]:
+        page.fault(f"the drawing has a height of {high} pixels, and the page {whole}")
+    page.expect("what is beside or too wide", [part for part in page.at["outside"] if "width" in part], [])
+
+
 def shortened(faults):
     more = len(faults) - SHOWN_FAULTS
     return "\n".join(faults[:SHOWN_FAULTS] + ([f"and {more} more"] if more > 0 else []))
@@ -107,7 +118,8 @@ def page_problem(suite, browser, file, page_file, first_views):
         attempt(width, height, mode, lambda page: check_pass(page, expected, key, is_first=key == PASSES[0][3]))
     for width, height, mode in TOOL_PASSES:
         attempt(width, height, mode, lambda page: run_checks(page, expected, session))
-    attempt(*NARROW, lambda page: check_narrow(page, expected, first_views))
+    attempt(*NARROW, lambda page: check_narrow(page, expected, first_views["telephone"]))
+    attempt(*LOW, lambda page: check_low(page, expected, first_views["low window"]))
     if grounds["light"] == grounds["dark"]:
         faults.append("light and dark have the same background")
     return shortened(faults)
@@ -210,7 +222,7 @@ def bare_problem(suite, browser, room):
     browser.open(page_file)
     shown = browser.evaluate("document.body.innerText")
     browser.ask("Emulation.setScriptExecutionDisabled", value=False)
-    for text in ("Scripts are off", '"2 next left","ok left 3 halted split"'):
+    for text in ("Scripts are off", "split: left (state = 2) and right (state = 3)", "## split halts here"):
         faults += [] if text in shown else [f"without scripts the page does not show {text}"]
     browser.open(page_file)
     colours = {"forced-colors": "active", "prefers-color-scheme": "dark"}
@@ -236,11 +248,12 @@ def run(suite):
         if suite.options.large:
             suite.attempt(f"a page of {LARGE} lines", large_problem, suite, browser, room)
         else:
-            first_views = []
+            first_views = {"telephone": [], "low window": []}
             for file in files:
                 suite.attempt(short_name(file), page_problem, suite, browser, file, room / "page.html", first_views)
-            seen, rest = sum(first_views), len(first_views) - sum(first_views)
-            problem = f"they are in that of {seen}, and not in that of {rest}" if 9 * rest > seen else ""
-            suite.case("on a telephone, the violating events are in the first view of nine in ten pages", problem)
+            for where, views in first_views.items():
+                seen, rest = sum(views), len(views) - sum(views)
+                problem = f"they are in that of {seen}, and not in that of {rest}" if 9 * rest > seen else ""
+                suite.case(f"on a {where}, the violating events are in the first view of nine in ten pages", problem)
             suite.attempt("a page with odd bytes", odd_problem, suite, browser, room)
             suite.attempt("a page without scripts, in forced colours, and in print", bare_problem, suite, browser, room)

@@ -12,6 +12,7 @@ import sys
 
 from harness import TOP, Fault, sessions, temporary_folder
 from harness.drawing import Drawing
+from harness.explanations import talked_lines
 from harness.log import log_problems
 from harness.page_data import FinalState, data_text, read_page
 from harness.random_sessions import random_session
@@ -49,6 +50,12 @@ def shown_reasons(session, name):
     return [line.strip() for line in reasons if not line.strip().startswith(("not yet in ", "the part of "))]
 
 
+def explained_refusals(suite, session):
+    """What an interactive session says of each line that is refused, by the numbers of the lines."""
+    talked = talked_lines(suite, f"{session.program}\n%%\n", session.lines)
+    return {n: line.notes for n, line in enumerate(talked, 1) if re.match(r"no \d", line.reply) and line.notes}
+
+
 def wrong_answers(wanted, shown):
     """One line for each question to which the page and the program have different answers."""
     questions = [question for question in {**wanted, **shown} if wanted.get(question) != shown.get(question)]
@@ -57,12 +64,14 @@ def wrong_answers(wanted, shown):
 
 def page_problem(suite, file):
     """What the page of a session knows wrongly."""
-    page, session = FinalState(read_page(draw(suite, "html", file).decode())), Session(suite, file)
+    data, session = read_page(draw(suite, "html", file).decode()), Session(suite, file)
+    page = FinalState(data)
     end = len(session.lines)
     replies = session.replies({end: list(page.answers)})
     shown = {number: reply for number, reply in page.replies.items() if reply}  # a directive has no reply
     problems = wrong_answers(replies, {**shown, **{(end, question): answer for question, answer in page.answers.items()}})
     problems += wrong_answers({name: shown_reasons(session, name) for name in page.reasons}, page.reasons)
+    problems += wrong_answers(explained_refusals(suite, session), data["explained"])
     return "\n".join(problems)
 
 

@@ -1,15 +1,23 @@
-// The address ends in the number of the line. After a colon, the chosen breakpoint follows, or the chosen process and the number of its event.
-function addressEnd() {
-  const {point, p, n} = chosen || {};
-  return '#' + place + (!chosen ? '' : point !== undefined ? ':' + point : ':' + processes[p].name + ':' + n);
+// The address ends in the number of the line. After a colon, the chosen breakpoint follows, or the chosen process and the number of its event,
+// or the processes and the number of a message.
+function choiceEnd({point, p, n, from, to, message}) {
+  if (point !== undefined) return ':' + point;
+  return message !== undefined ? ':' + [processes[from].name, processes[to].name, message + 1].join(':') : ':' + processes[p].name + ':' + n;
+}
+function addressEnd() { return '#' + place + (chosen ? choiceEnd(chosen) : ''); }
+function choiceAt(names) {
+  const places = names.map(name => processes.findIndex(process => process.name === name)), [p, q] = places, last = names[names.length - 1];
+  const number = /^\d+$/.test(last) ? Number(last) : -1;
+  if (names.length === 3 && p >= 0 && q >= 0 && number > 0) return {from: p, to: q, message: number - 1};
+  if (names.length === 2 && p >= 0 && number >= 0) return {p, n: number};
+  return names.length === 1 && last ? {point: last} : null;
 }
 // Shows what the end of an address names, and otherwise where the session halts first. What was shown before no longer becomes the address.
 function openAt(end) {
   clearTimeout(addressWaits);
-  const [line, name, n] = end.slice(1).split(':'), p = processes.findIndex(process => process.name === name);
+  const [line, ...names] = end.slice(1).split(':');
   if (/^\d+$/.test(line)) place = Math.min(lines.length, Number(line));
-  if (/^\d+$/.test(n) && p >= 0) chosen = {p, n: Number(n)};
-  else chosen = name && n === undefined ? {point: name} : null;
+  chosen = choiceAt(names);
   show({isMoved: true, isChosen: chosen !== null});
 }
 // The file's name, from the address of the page, without its ending; or else the names of the processes.
@@ -70,6 +78,24 @@ async function copyText(text, button) {
 function copyLink() {
   writeAddress();
   copyText(location.href.replace(/#.*/, '') + addressEnd(), find('copy'));
+}
+// What is said of the state, as text: the line with its reply, and the details. Cells are below each other.
+function tableText(table) {
+  const texts = [...table.rows].map(row => [...row.cells].map(cell => cell.textContent.trim()));
+  const widths = texts.reduce((all, row) => row.map((text, i) => Math.max(all[i] || 0, text.length)).concat(all.slice(row.length)), []);
+  const lines = texts.map(row => '  ' + row.map((text, i) => text.padEnd(widths[i] + 2)).join('').trimEnd());
+  return [...table.caption.textContent ? [table.caption.textContent] : [], ...lines];
+}
+function textOf(part) {
+  if (part.matches('.help, details')) return [];
+  if (part.matches('table')) return tableText(part);
+  if (part.matches('.parts')) return [...part.children].flatMap(textOf);
+  const parts = [...part.childNodes].filter(child => child.nodeType === 3 || !child.matches('[aria-label^="Copy"]'));
+  return [parts.map(child => child.textContent).join('').trim()];
+}
+function copyAsText() {
+  const parts = [...find('details').children].flatMap(part => part.matches('h2') ? ['', ...textOf(part)] : textOf(part));
+  copyText([sessionName(), find('said').textContent, ...parts].join('\n') + '\n', find('text'));
 }
 
 // The whole drawing as a file of its own: each shape with the look that it has here.

@@ -9,6 +9,40 @@ function relation(event, middle) {
   if (clockAt(middle)[event.p] >= event.n) return ' past';
   return clockAt(event)[middle.p] >= middle.n ? ' future' : ' apart';
 }
+// The shortest chains to an event: of each other process in its past, an event from which the fewest messages lead there, as the events on the
+// way, the last one first. Of those with as few messages, one with the fewest events is taken.
+const CHAINED = 20000;
+function chainsTo(middle) {
+  const chains = new Map(), seen = new Set([middle]);
+  for (let near = [{event: middle, rest: null}], count = 0; near.length > 0 && count < CHAINED;) {
+    const far = [];
+    for (const step of near) {
+      for (let {event, rest} = step; event && event.n > 0 && count < CHAINED; count++) {
+        if (event.p !== middle.p && !chains.has(event.p)) chains.set(event.p, {event, rest});
+        const {sender, before} = event;
+        if (sender && !seen.has(sender)) seen.add(sender), far.push({event: sender, rest: {event, rest}});
+        if (!before || before.n === 0 || seen.has(before)) break;
+        seen.add(before);
+        [event, rest] = [before, {event, rest}];
+      }
+    }
+    near = far;
+  }
+  return chains;
+}
+// The events of a chain, of which those of one process that follow one another are one span.
+function chainText(step) {
+  const spans = [];
+  for (; step; step = step.rest) {
+    const {p, n} = step.event, last = spans[spans.length - 1];
+    if (last && last.q === p) last.to = n; else spans.push({q: p, from: n, to: n});
+  }
+  return spans.map(spanOf).join(' \u2192 ');
+}
+function chainDetails(middle) {
+  const chains = [...chainsTo(middle)].sort(([p], [q]) => p - q);
+  return chains.length > 0 ? [table('shortest chain of messages from', chains.map(([p, step]) => [processes[p].name, chainText(step)]))] : [];
+}
 // The first event of each process that depends on this one, and the last that the process made; none for the others.
 function consequences(middle) {
   return processes.flatMap((process, q) => {

@@ -138,7 +138,7 @@ find('halts').append(...halts.slice(0, 100).map(n => node('option', '', {value: 
 find('slider').oninput = event => go(Number(event.target.value));
 const buttons = {
   first: () => step(-Infinity), before: () => step(-1), next: () => step(1), last: () => step(Infinity), play: () => play(!playing),
-  narrower: () => zoom(.8), wider: () => zoom(1.25), fit, copy: copyLink, save, code: toggleProgram,
+  narrower: () => zoom(.8), wider: () => zoom(1.25), fit, text: copyAsText, copy: copyLink, save, code: toggleProgram,
 };
 for (const name in buttons) find(name).onclick = buttons[name];
 listArea.onscroll = area.onscroll = () => show({});

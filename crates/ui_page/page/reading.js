@@ -1,6 +1,6 @@
 const find = id => document.getElementById(id);
 // The data are a line of JSON for the program, one for what a line of the session did, if it did something, and one for each line with its
-// reply. In a text, `<` and each byte that is not ASCII are characters from 256 on.
+// reply and an explanation, if it has one. In a text, `<` and each byte that is not ASCII are characters from 256 on.
 let session, values;
 try {
   const data = find('session').textContent.trim().replace(/[\u0100-\u01ff]/g, sign => String.fromCharCode(sign.charCodeAt(0) - 256));
@@ -41,8 +41,5 @@ const processes = session.processes, count = processes.length;
 for (const {variables} of processes) for (const variable of variables) variable[1] = written(variable[1]);
 const lines = values.filter(([text]) => typeof text === 'string'), lineOperations = lines.map(() => []);
 for (const value of values) if (typeof value[0] === 'number') lineOperations[value[0] - 1] = value.slice(1);
-for (const line of lines) {
-  line[0] = readable(line[0]);
-  line[1] = readable(line[1]);
-}
+for (const line of lines) line.forEach((text, i) => line[i] = readable(text));
 for (const {commands} of processes) for (const command of commands) command[1] = readable(command[1]);

@@ -13,9 +13,37 @@ fn write_parts<W: Sink>(parts: &[&str], writer: &mut W) -> Result<(), ServeFault
     Ok(())
 }
 
-/// Writes the page of a session, as it was recorded.
-pub fn write_page<W: Sink>(session: &PageData, writer: &mut W) -> Result<(), ServeFault> {
+// What stands for a byte in the text of a page, unless it is the byte itself.
+fn escaped(byte: u8) -> Option<&'static str> {
+    match byte {
+        b'<' => Some("&lt;"),
+        b'&' => Some("&amp;"),
+        _ => None,
+    }
+}
+
+// Writes a text as the page has it.
+fn write_text<W: Sink>(text: &[u8], writer: &mut W) -> Result<(), ServeFault> {
+    let mut from = 0usize;
+    for (at, byte) in text.iter().enumerate() {
+        if let Some(escape) = escaped(*byte) {
+            write_whole(writer, text.get(from..at).unwrap_or(&[]))?;
+            write_whole(writer, escape.as_bytes())?;
+            from = at.saturating_add(1);
+        }
+    }
+    write_whole(writer, text.get(from..).unwrap_or(&[]))
+}
+
+/// Writes the page of a session, as it was recorded. Without scripts the page shows this drawing of it, which is text.
+pub fn write_page<W: Sink>(
+    session: &PageData,
+    drawing: &[u8],
+    writer: &mut W,
+) -> Result<(), ServeFault> {
     write_parts(&sources::before(), writer)?;
+    write_text(drawing, writer)?;
+    write_parts(&sources::between(), writer)?;
     write_whole(writer, session.bytes())?;
     let written = write_parts(&sources::after(), writer);
     hand_on(written, writer)

@@ -18,7 +18,7 @@ use lines::RecordedLines;
 use proc_tree::Program;
 use serde_json::{Map, Value};
 use std::alloc::{AllocError, Global};
-use ui_text::ProgramText;
+use ui_text::{Notes, ProgramText};
 use ui_view::{BreakpointChange, CountedCommand, SourceView, Told};
 
 // The kind of a call, as far as a page needs it.
@@ -80,18 +80,16 @@ impl Drop for Recorder<'_> {
 }
 
 impl List {
-    // A command: the number of its line, and the line.
+    // A command: the number of its line, the line, and its label, if it has one.
     fn command(&mut self, text: &ProgramText, pid: Pid, number: u32) -> Result<(), AllocError> {
+        let choice = Choice(number);
+        let place = text.place(pid, choice);
         let mut command = self.another();
-        match text.place(pid, Choice(number)) {
-            Some(place) => {
-                command.count(place)?;
-                command.text(text.line(place))?;
-            }
-            None => {
-                command.count(0)?;
-                command.text(&[])?;
-            }
+        command.count(place.unwrap_or(0))?;
+        command.text(place.map_or(&[], |place| text.line(place)))?;
+        let label = text.label(pid, choice);
+        if !label.is_empty() {
+            command.text(label)?;
         }
         self.list(command)
     }
@@ -264,6 +262,12 @@ impl<'a> Recorder<'a> {
                 Err(_) => self.note_why(Incomplete::Memory),
             }
         }
+    }
+
+    /// The present line is explained so.
+    pub fn explain_line(&mut self, notes: &Notes) {
+        let explained = self.lines.explain(notes);
+        self.note(explained);
     }
 
     /// This was said to the present line, and it has this reply.

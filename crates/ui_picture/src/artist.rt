@@ -82,7 +82,12 @@ impl<'a> Artist<'a> {
         }
     }
 
-    fn draw(&mut self, alloc: Global, session: SessionView<'_>) -> Result<(), AllocError> {
+    /// Draws this state.
+    pub(crate) fn draw(
+        &mut self,
+        alloc: Global,
+        session: SessionView<'_>,
+    ) -> Result<(), AllocError> {
         let text = self.text;
         // The only refusal is that memory ran out.
         let picture = picture_of(alloc, self.wanted, SourceView::new(session, text));

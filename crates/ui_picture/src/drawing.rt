@@ -7,7 +7,7 @@ use shell_io::{Sink, Source};
 use shell_print::{ServeFault, Served, status, tell_too_long};
 use std::alloc::Global;
 use ui_diagram::{Moment, Picture};
-use ui_page::{Incomplete, REPLY_BYTES, write_page};
+use ui_page::{Incomplete, REPLY_BYTES};
 use ui_repl::{OpenSession, Opening, PlayedSession, WrittenProgram, open, write_notes, write_text};
 use ui_session::Typed;
 use ui_text::{Notes, Part};
@@ -91,8 +91,8 @@ fn write_drawing<W: Sink, E: Sink>(
     errors: &mut E,
 ) -> Result<Drawn, ServeFault> {
     match drawer {
-        Drawer::Page(recorder) => match recorder.session() {
-            Ok(page) => write_page(&page, writer)?,
+        Drawer::Page(page) => match page.write(writer)? {
+            Ok(()) => {}
             Err(Incomplete::Memory) => return Err(ServeFault::Memory),
             Err(Incomplete::TooLarge) => {
                 let why = "the page has room for replies of {} bytes";
@@ -157,7 +157,7 @@ fn draw_open<R: Source + Typed, W: Sink, E: Sink>(
     if let Some(drawn) = report_unknown(alloc, picture.only, wanted, written, &session, errors)? {
         return Ok(drawn);
     }
-    let drawer = Drawer::new(alloc, picture, &session.program, written.text());
+    let drawer = Drawer::new(alloc, picture, &session.program, written);
     let mut played = session.play_unheard(alloc, written, wanted, drawer, reader)?;
     if let Some(drawn) = report_line(alloc, &mut played, wanted, reader, errors)? {
         return Ok(drawn);

@@ -4,5 +4,6 @@
 mod artist;
 mod drawer;
 mod drawing;
+mod page_drawer;
 
 pub use drawing::{Drawn, draw, draw_status};

@@ -7,10 +7,16 @@ mod after_4;
 mod after_5;
 mod after_6;
 mod before_1;
+mod between_1;
 
-/// The page before its session.
+/// The page before its drawing.
 pub(super) fn before() -> [&'static str; 1] {
     [before_1::TEXT]
+}
+
+/// The page between its drawing and its session.
+pub(super) fn between() -> [&'static str; 1] {
+    [between_1::TEXT]
 }
 
 /// The page after its session.

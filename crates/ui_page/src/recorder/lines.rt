@@ -6,15 +6,21 @@ use serde_json::Value;
 use shell_parse::without_return;
 use std::alloc::{AllocError, Global};
 use std::mem;
+use ui_text::Notes;
 
 /// The most bytes that the replies of a page have.
 pub const REPLY_BYTES: usize = 16_777_216;
 
-// Where the text of a line ends in the texts of all lines, and its reply in all replies. A line without a reply has an empty one.
+// The most bytes that the explanations of a page have. Lines after that have none.
+const EXPLAINED_BYTES: usize = 1_048_576;
+
+// Where the text of a line ends in the texts of all lines, its reply in all replies, and its explanation in all explanations. A line without
+// a reply has an empty one.
 #[derive(Clone, Copy)]
 struct End {
     text: usize,
     reply: usize,
+    explained: usize,
 }
 
 /// The lines, one after the other, and their operations.
@@ -22,6 +28,7 @@ struct End {
 pub(super) struct RecordedLines {
     text: Vec<u8>,
     replies: Vec<u8>,
+    explanations: Vec<u8>,
     ends: Vec<End>,
     // How many lines the page shows so far.
     shown: usize,
@@ -36,6 +43,7 @@ impl RecordedLines {
         RecordedLines {
             text: Vec::new(alloc),
             replies: Vec::new(alloc),
+            explanations: Vec::new(alloc),
             ends: Vec::new(alloc),
             shown: 0,
             operations: List::new(alloc),
@@ -60,6 +68,7 @@ impl RecordedLines {
         let end = End {
             text: self.text.len(),
             reply: self.replies.len(),
+            explained: self.explanations.len(),
         };
         Ok(self.ends.push(end)?)
     }
@@ -67,6 +76,22 @@ impl RecordedLines {
     /// The number of the present line, and then its operations.
     pub(super) fn operations(&mut self) -> &mut List {
         &mut self.operations
+    }
+
+    /// Adds these lines to the explanation of the present line, if there is room for them.
+    pub(super) fn explain(&mut self, notes: &Notes) -> Result<(), AllocError> {
+        if notes.length() > EXPLAINED_BYTES.saturating_sub(self.explanations.len()) {
+            return Ok(());
+        }
+        for number in 0..notes.count() {
+            self.explanations
+                .extend_from_slice(notes.line(number).bytes)?;
+            self.explanations.push(b'\n')?;
+        }
+        if let Some(end) = self.ends.last_mut() {
+            end.explained = self.explanations.len();
+        }
+        Ok(())
     }
 
     /// The present line has this reply, and its operations end here.
@@ -85,19 +110,35 @@ impl RecordedLines {
         Ok(())
     }
 
+    // The line between these ends, its reply, and its explanation, if it has one. None if the page does not show the line.
+    fn value(&self, alloc: Global, from: End, to: End) -> Result<Option<Value>, AllocError> {
+        let line = self.text.get(from.text..to.text).unwrap_or(&[]);
+        if !is_shown(line) {
+            return Ok(None);
+        }
+        let mut value = List::new(alloc);
+        value.text(line)?;
+        value.text(self.replies.get(from.reply..to.reply).unwrap_or(&[]))?;
+        let explained = self.explanations.get(from.explained..to.explained);
+        if let Some([_, ..]) = explained {
+            value.text(explained.unwrap_or(&[]))?;
+        }
+        Ok(Some(value.into_value()))
+    }
+
     /// Adds the lines with their replies to the data.
     pub(super) fn put_replies(&mut self, alloc: Global) -> Result<(), Incomplete> {
-        let mut from = End { text: 0, reply: 0 };
-        for end in &self.ends {
-            let line = self.text.get(from.text..end.text).unwrap_or(&[]);
-            if is_shown(line) {
-                let reply = self.replies.get(from.reply..end.reply).unwrap_or(&[]);
-                let mut both = List::new(alloc);
-                both.text(line)?;
-                both.text(reply)?;
-                self.data.add(alloc, &both.into_value())?;
+        let mut from = End {
+            text: 0,
+            reply: 0,
+            explained: 0,
+        };
+        for number in 0..self.ends.len() {
+            let to = self.ends.get(number).copied().unwrap_or(from);
+            if let Some(value) = self.value(alloc, from, to)? {
+                self.data.add(alloc, &value)?;
             }
-            from = *end;
+            from = to;
         }
         Ok(())
     }

@@ -172,10 +172,12 @@ function summary(p, n) {
   const what = n === 0 ? 'start' : n <= shown.events[p].length ? 'event ' + n : 'to redo: event ' + n;
   return what + ' of ' + processes[p].name;
 }
+// A command by its label, or else by its number.
+function commandName({p, k}) { return (processes[p].commands[k] || [])[2] || 'command ' + k; }
 function deeds(event) {
   const [way, other, value] = event.exchange || [], message = way === 's' ? 'sent ' + value + ' to ' : 'received ' + value + ' from ';
   const sets = event.sets.map(([name, , value]) => name + '=' + value);
-  return ['command ' + event.k, ...sets, ...way ? [message + processes[other].name] : []].join(', ');
+  return [commandName(event), ...sets, ...way ? [message + processes[other].name] : []].join(', ');
 }
 // The changes of an event, in so many characters: a name is cut before its value is. What this part of a predicate names comes first.
 function settings(event, most, part) {
@@ -221,19 +223,24 @@ function paintNames(part) {
 
 // Where a message that is on its way ends: at the recipient's line, after its events. Of many messages, the later ones end further to the right.
 function flightDepth(to, event, place) { return Math.max(event.depth, state.lines[to].done.depth) + .8 + .12 * Math.min(20, place); }
+function messageName(event, end) {
+  const [, to, value] = event.exchange;
+  return 'message ' + value + ' from event ' + event.n + ' of ' + processes[event.p].name + ' to ' +
+    (end ? 'event ' + end.n + ' of ' + processes[to].name : processes[to].name + ', on its way');
+}
 function paintArrow(part, {from, to, got}, n, event, kind) {
   const {x, y} = part, end = got[n], value = event.exchange[2];
   const x1 = x(event.depth), y1 = y(from), x2 = x(end ? end.depth : flightDepth(to, event, n - got.length)), y2 = y(to);
   const length = Math.hypot(x2 - x1, y2 - y1), ux = (x2 - x1) / length, uy = (y2 - y1) / length, gap = end ? radius + 2 : 1;
   const tx = x2 - gap * ux, ty = y2 - gap * uy, along = Math.abs(rowOf[to] - rowOf[from]) > 1 ? .3 : .46;
   const side = (back, off) => (tx - back * ux - off * uy) + ',' + (ty - back * uy + off * ux);
-  const [line, head, text, title] = arrows.item([from, to, n].join(), kind, ['line', 'path', 'text', 'title']);
+  const isChosen = chosen && chosen.from === from && chosen.to === to && chosen.message === n, what = {from, to, message: n};
+  const [line, head, text, title] = arrows.item([from, to, n].join(), kind + (isChosen ? ' chosen' : ''), ['line', 'path', 'text', 'title'], what);
   set(line, {x1: x1 + radius * ux, y1: y1 + radius * uy, x2: end ? tx - 5 * ux : tx, y2: end ? ty - 5 * uy : ty});
   set(head, {d: 'M' + side(8, 4) + ' L' + tx + ',' + ty + ' L' + side(8, -4) + (end ? ' Z' : '')});
   set(text, {x: x1 + along * (x2 - x1), y: y1 + along * (y2 - y1) + 4});
   setText(text, short(value, Math.floor(Math.max(length / 2, width) / 7)));
-  nameItem(title, 'message ' + value + ' from event ' + event.n + ' of ' + processes[from].name + ' to ' +
-    (end ? 'event ' + end.n + ' of ' + processes[to].name : processes[to].name + ', on its way'));
+  nameItem(title, messageName(event, end));
 }
 function paintChannel(part, channel, cut) {
   const {from, to, sent, got} = channel, {low, most} = part;

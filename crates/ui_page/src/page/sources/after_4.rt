@@ -103,6 +103,40 @@ function relation(event, middle) {
   if (clockAt(middle)[event.p] >= event.n) return ' past';
   return clockAt(event)[middle.p] >= middle.n ? ' future' : ' apart';
 }
+// The shortest chains to an event: of each other process in its past, an event from which the fewest messages lead there, as the events on the
+// way, the last one first. Of those with as few messages, one with the fewest events is taken.
+const CHAINED = 20000;
+function chainsTo(middle) {
+  const chains = new Map(), seen = new Set([middle]);
+  for (let near = [{event: middle, rest: null}], count = 0; near.length > 0 && count < CHAINED;) {
+    const far = [];
+    for (const step of near) {
+      for (let {event, rest} = step; event && event.n > 0 && count < CHAINED; count++) {
+        if (event.p !== middle.p && !chains.has(event.p)) chains.set(event.p, {event, rest});
+        const {sender, before} = event;
+        if (sender && !seen.has(sender)) seen.add(sender), far.push({event: sender, rest: {event, rest}});
+        if (!before || before.n === 0 || seen.has(before)) break;
+        seen.add(before);
+        [event, rest] = [before, {event, rest}];
+      }
+    }
+    near = far;
+  }
+  return chains;
+}
+// The events of a chain, of which those of one process that follow one another are one span.
+function chainText(step) {
+  const spans = [];
+  for (; step; step = step.rest) {
+    const {p, n} = step.event, last = spans[spans.length - 1];
+    if (last && last.q === p) last.to = n; else spans.push({q: p, from: n, to: n});
+  }
+  return spans.map(spanOf).join(' \u2192 ');
+}
+function chainDetails(middle) {
+  const chains = [...chainsTo(middle)].sort(([p], [q]) => p - q);
+  return chains.length > 0 ? [table('shortest chain of messages from', chains.map(([p, step]) => [processes[p].name, chainText(step)]))] : [];
+}
 // The first event of each process that depends on this one, and the last that the process made; none for the others.
 function consequences(middle) {
   return processes.flatMap((process, q) => {
@@ -135,17 +169,19 @@ function table(caption, rows, kind = '') {
   const body = rows.map(([head, ...cells]) => node('tr', [node('th', head, {scope: 'row'}), ...cells.map(cell => node('td', cell))], {class: kind}));
   return node('table', [node('caption', caption), ...body]);
 }
-function link(p, n) {
-  const made = node('button', 'event ' + n + ' of ' + processes[p].name);
-  made.onclick = () => choose({p, n});
+function choosing(text, what) {
+  const made = node('button', text);
+  made.onclick = () => choose(what);
   return made;
 }
+function link(p, n) { return choosing('event ' + n + ' of ' + processes[p].name, {p, n}); }
 function exchanged(event) {
   const [way, other, value, n] = event.exchange, name = processes[other].name;
   const channel = way === 's' ? shown.channel(event.p, other) : shown.channel(other, event.p);
-  const end = way === 's' ? channel.got[n - 1] : channel.sent[n - 1];
-  if (way === 'r') return ['received ' + value + ' from ' + name + ', its message ' + n + ', sent by ', end ? link(other, end.n) : name];
-  return ['sent ' + value + ' to ' + name + ', message ' + n + ', ', ...end ? ['received by ', link(other, end.n)] : ['on its way']];
+  const end = way === 's' ? channel.got[n - 1] : channel.sent[n - 1], [from, to] = way === 's' ? [event.p, other] : [other, event.p];
+  const message = choosing('message ' + n, {from, to, message: n - 1});
+  if (way === 'r') return ['received ' + value + ' from ' + name + ', its ', message, ', sent by ', end ? link(other, end.n) : name];
+  return ['sent ' + value + ' to ' + name + ', ', message, ', ', ...end ? ['received by ', link(other, end.n)] : ['on its way']];
 }
 function eventDetails({p, n}) {
   const {name, variables, commands} = processes[p], event = n === 0 ? at(state.lines[p].done, 0) : eventAt(p, n);
@@ -153,7 +189,7 @@ function eventDetails({p, n}) {
   const isMade = n <= shown.events[p].length, details = [node('h2', summary(p, n))];
   if (n > 0) {
     const [line] = commands[event.k] || ['?'];
-    details.push(node('p', ['command ' + event.k + ' in line ' + line + ': ', node('code', commandText(p, event.k))]));
+    details.push(node('p', [commandName(event) + ' in line ' + line + ': ', node('code', commandText(p, event.k))]));
   }
   if (!isMade) return event.sets.length > 0 || event.exchange ? [...details, node('p', 'as it was made before: ' + deeds(event))] : details;
   if (event.exchange) details.push(node('p', exchanged(event)));
@@ -165,8 +201,23 @@ function eventDetails({p, n}) {
   const counts = processes.map((other, q) => [other.name, upTo(shown.channel(p, q).sent), upTo(shown.channel(q, p).got)]);
   const messages = counts.filter(([, sent, got]) => sent + got > 0).map(([name, sent, got]) => [name, 'sent ' + sent, 'got ' + got]);
   const upToIt = messages.length > 0 ? [table('messages up to it', messages)] : [];
-  details.push(node('div', [table('variables after it', local), table('its clock', clock), ...upToIt], {class: 'parts'}));
+  const chains = n > 0 ? chainDetails(event) : [];
+  details.push(node('div', [table('variables after it', local), table('its clock', clock), ...upToIt, ...chains], {class: 'parts'}));
   return details;
+}
+// A message: its events, and whether it crosses the cut that is shown.
+function messageDetails({from, to, message}) {
+  const {sent, got} = shown.channel(from, to), event = sent[message], end = got[message], cut = shownCut();
+  if (!event) return [node('h2', processes[from].name + ' has sent no message ' + (message + 1) + ' to ' + processes[to].name + ' here')];
+  const crosses = cut && isInside(cut, event) && !(end && isInside(cut, end));
+  return [node('h2', messageName(event, end)), node('p', ['sent by ', link(from, event.n), ': ' + deeds(event)]),
+    node('p', end ? ['received by ', link(to, end.n), ': ' + deeds(end)] : 'it is on its way'),
+    node('p', 'message ' + (message + 1) + ' of ' + sent.length + ' from ' + processes[from].name + ' to ' + processes[to].name +
+      (got.length < sent.length ? '; ' + got.length + ' are received' : '')),
+    ...crosses ? [node('p', 'it crosses the cut of ' + cut.name)] : []];
+}
+function detailsOf(what) {
+  return what.point !== undefined ? pointDetails(what.point) : what.message !== undefined ? messageDetails(what) : eventDetails(what);
 }
 function counted(n) { return n + (n === 1 ? ' event' : ' events'); }
 // Why the candidate of a process advanced.
@@ -178,6 +229,19 @@ function reason({p, to, by, event}) {
 const HELP = 'Arrow keys, Page Up, Page Down, Home and End go through the lines, h and H through the halts, and / searches. A click chooses an ' +
   'event, a name or a breakpoint; so does Enter, after Tab and arrow keys have reached it. Shift with an arrow key continues from it; Escape ends ' +
   'the choice. f fits the drawing to the window, + and - change its size, and p shows the program.';
+// The events of a process that a line made or undid: their number went from `before` to `after`.
+function changeOf(p, before, after) {
+  if (after < before) return node('p', ['undone: ', before - after === 1 ? '' : 'the ' + counted(before - after) + ' from ', link(p, after + 1)]);
+  return [...shown.events[p].slice(before, after)].map(event => node('p', [link(p, event.n), ': ' + deeds(event)]));
+}
+// What a line did, or why it was refused.
+function lineDetails() {
+  if (place === 0) return [];
+  const [text, , explained] = lines[place - 1], old = states[place - 1].lines;
+  const changes = state.lines.flatMap((line, p) => line === old[p] ? [] : changeOf(p, old[p].done.n, line.done.n));
+  const refused = explained ? explained.trimEnd().split('\n').map(line => node('p', line, {class: 'explained'})) : [];
+  return changes.length + refused.length > 0 ? [node('h2', ['line ' + place + ': ', node('code', text)]), ...changes, ...refused] : [];
+}
 function stateDetails() {
   const rows = state.lines.map(({done}, p) => {
     const values = [...valuesAt(done)].map(([name, value]) => name + '=' + value).join(' '), again = later[p].events.length;
@@ -188,7 +252,8 @@ function stateDetails() {
     return [processes[from].name + ' to ' + processes[to].name, values + (sent.length > got.length + 50 ? ' ..' : '')];
   });
   const halting = points.find(({name}) => name === state.halting);
-  return [...halting ? cutDetails(halting) : [], node('h2', 'all processes'),
+  const aboutLine = lineDetails(), aboutHalt = halting ? cutDetails(halting) : [], isRefused = place > 0 && lines[place - 1].length > 2;
+  return [...isRefused ? [...aboutLine, ...aboutHalt] : [...aboutHalt, ...aboutLine], node('h2', 'all processes'),
     node('div', [table('', rows), ...ways.length ? [table('on their way', ways)] : []], {class: 'parts'}), node('p', HELP, {class: 'help'})];
 }
 // Replaces those parts that have changed, so that a selection of text in the others stays.
@@ -210,7 +275,7 @@ function removed(part) {
 }
 function showDetails() {
   const details = find('details'), hadFocus = details.contains(document.activeElement) && details !== document.activeElement;
-  update(details, !chosen ? stateDetails() : chosen.point !== undefined ? pointDetails(chosen.point) : eventDetails(chosen));
+  update(details, chosen ? detailsOf(chosen) : stateDetails());
   if (hadFocus && !details.contains(document.activeElement)) details.focus();
 }
 function showPoints() {
@@ -228,120 +293,4 @@ function showPoints() {
     set(button, {class: colourOf(name) + (isHalting ? ' halting' : ''), 'aria-pressed': Boolean(chosen && chosen.point === name)});
   });
 }
-
-// Why the candidate of a process advanced.
-function reason({p, to, by, event}) {
-  const {name} = processes[p];
-  if (by === undefined) return name + (to === 1 ? ' at its start' : ' after ' + counted(to - 1)) + ': its part is false';
-  return name + ' needs ' + counted(to) + ': event ' + event + ' of ' + processes[by].name + ' depends on that';
-}
-// The last eliminations of a search, with those of the current line in bold.
-const SHOWN_STEPS = 200;
-function searchSteps(name, last) {
-  const before = states[Math.max(0, place - 1)], old = before.searches[pointPlace(before, name)], items = [];
-  const kept = old ? common(old, last) : last.n;
-  for (let step = last; step.n > 0 && items.length < SHOWN_STEPS; step = step.before) {
-    items.push(node('li', step.n > kept ? node('b', reason(step)) : reason(step), {value: step.n}));
-  }
-  const more = last.n - items.length, note = more > 0 ? [node('p', 'the last ' + items.length + ' of ' + last.n + ' steps')] : [];
-  return node('div', [...note, node('ol', items.reverse())], {class: 'search'});
-}
-// The search is folded, until the reader opens it. Only then the details have it.
-let isSearchOpen = false;
-function searchParts({name, search, frontier}) {
-  const counts = table('frontier: events of', frontier.map((n, p) => [processes[p].name, n < 0 ? 'past' : String(n)]));
-  counts.className = 'counts';
-  return node('div', [counts, searchSteps(name, search)], {class: 'parts'});
-}
-function searchDetails(point) {
-  const {n} = point.search, heading = n === 0 ? 'no state was ruled out' : n === 1 ? '1 state was ruled out' : n + ' states were ruled out';
-  const made = node('details', node('summary', 'search: ' + heading), isSearchOpen ? {open: ''} : {});
-  if (isSearchOpen) made.append(searchParts(point));
-  made.ontoggle = () => {
-    if (isSearchOpen === made.open) return;
-    isSearchOpen = made.open;
-    if (isSearchOpen) made.append(searchParts(points.find(({name}) => name === point.name) || point)); else made.lastChild.remove();
-  };
-  return made;
-}
-
-// The parts of a predicate, as one condition.
-function predicateOf({parts}) { return parts.map(([p, text, shown]) => processes[p].name + ' ' + (shown || text)).join(' and '); }
-// A process in a cut: its events in it and in all, its part of the predicate, since when that holds, and its variables.
-function cutRow({cut, parts}, p) {
-  const n = cut[p], part = parts.find(([q]) => q === p), made = state.lines[p].done.n;
-  const values = [...valuesAt(madeEvent(p, n)), ...countsOf(part ? part[1] : '', p, n)].map(([name, value]) => name + '=' + value).join(' ');
-  return [unbroken(processes[p].name), n + ' of ' + made, part ? unbroken(part[2] || part[1]) : '', part ? heldSince(part[1], p, n) : '', values];
-}
-// A text that no line break divides, unless it is long.
-function unbroken(text) { return text.length > 20 ? text : node('span', text, {class: 'whole'}); }
-// The counts of messages that a part names, after n events of process p.
-function countsOf(text, p, n) {
-  return [...new Set(text.match(/\b(?:sent|got)\(\w+\)/g) || [])].map(count => {
-    const [way, name] = count.split(/[()]/), other = processes.findIndex(process => process.name === name);
-    const events = way === 'sent' ? shown.channel(p, other).sent : shown.channel(other, p).got;
-    return [count, String(firstWhere(events, event => event.n > n))];
-  });
-}
-const HEADS = ['process', 'events', 'predicate', 'part', 'variables'];
-// The state in the cut. The processes that the predicate names come first.
-function cutDetails(point) {
-  const {name, parts} = point, isNamed = p => parts.some(([q]) => q === p);
-  const order = [...processes.keys()].sort((p, q) => isNamed(q) - isNamed(p)), rows = order.map(p => cutRow(point, p));
-  const made = table('state in the cut', rows), channels = crossing(point);
-  made.createTHead().append(node('tr', HEADS.map(head => node('th', head, {scope: 'col'}))));
-  made.className = 'state';
-  parts.forEach((part, i) => made.rows[i + 1].className = 'part');
-  const ways = channels.map(({from, to, values}) => [processes[from].name + ' to ' + processes[to].name, values.join(' ')]);
-  const messages = ways.length > 0 ? table('messages that cross the cut', ways) : node('p', 'no message crosses the cut', {class: 'caption'});
-  const heading = state.halting === name ? 'halted by ' + name : 'breakpoint ' + name;
-  return [node('h2', heading), node('p', node('code', predicateOf(point)), {class: colourOf(name)}),
-    node('div', [made, messages], {class: 'parts'}), searchDetails(point)];
-}
-function pointDetails(name) {
-  const point = points.find(point => point.name === name);
-  if (!point) return [node('h2', 'breakpoint ' + name), node('p', hidden.points.has(name) ? 'hidden' : 'not set here')];
-  const found = state.halting === name ? ', halts the session' : point.cut ? ', has a cut' : ', has no cut';
-  const mark = node('p', (point.armed ? 'armed' : 'not armed') + found);
-  if (point.cut) return [...cutDetails(point), mark];
-  return [node('h2', 'breakpoint ' + name), node('p', node('code', predicateOf(point)), {class: colourOf(name)}), mark, searchDetails(point)];
-}
-
-// The lines that are listed. Row 0 is the start. A row stays as long as its line is visible, so that a selection of its text stays.
-const HIGH = 42, list = listArea.querySelector('.window'), rows = new Map();
-function makeRow(n) {
-  const [text, reply] = n === 0 ? ['start', ''] : lines[n - 1];
-  const kind = /^no\b/.test(reply) ? ' refused' : / halted \w+$/.test(reply) ? ' halts' : '';
-  const parts = [node('span', n || '', {class: 'number'}), node('div', text), node('div', reply || ' ', {class: 'reply' + kind})];
-  const row = node('div', parts, {role: 'option', id: 'line' + n, title: text + (reply && ' -> ' + reply)});
-  row.line = n;
-  rows.set(n, row);
-  return list.appendChild(row);
-}
-function paintLines() {
-  const high = listArea.clientHeight, top = listScroll.offset, first = Math.floor(top / HIGH);
-  const seen = listed.slice(first, first + Math.ceil(high / HIGH) + 1);
-  list.style.height = high + 'px';
-  for (const [n, row] of rows) {
-    if (n >= seen[0] && n <= seen[seen.length - 1] && listed[listPlace(n)] === n) continue;
-    rows.delete(n);
-    row.remove();
-  }
-  seen.forEach((n, i) => {
-    const row = rows.get(n) || makeRow(n);
-    row.style.top = (first + i) * HIGH - top + 'px';
-    set(row, {class: n === place ? 'row chosen' : 'row', 'aria-selected': n === place});
-    set(row, {'aria-posinset': first + i + 1, 'aria-setsize': listed.length});
-  });
-  set(listArea, {'aria-activedescendant': 'line' + listed[listPlace(place)]});
-}
-function revealLine() {
-  const top = listPlace(place) * HIGH, seen = listArea.clientHeight;
-  if (top < listScroll.offset || top + HIGH > listScroll.offset + seen) listScroll.offset = top - (seen - HIGH) / 2;
-}
-function relist() {
-  listLines();
-  listScroll.resize(listed.length * HIGH);
-}
-relist();
 "#;

@@ -1,6 +1,122 @@
 //! `tests/run page_sources --update` writes this file from `page/page.html` and what that includes.
 
 pub(super) static TEXT: &str = r#"
+// Why the candidate of a process advanced.
+function reason({p, to, by, event}) {
+  const {name} = processes[p];
+  if (by === undefined) return name + (to === 1 ? ' at its start' : ' after ' + counted(to - 1)) + ': its part is false';
+  return name + ' needs ' + counted(to) + ': event ' + event + ' of ' + processes[by].name + ' depends on that';
+}
+// The last eliminations of a search, with those of the current line in bold.
+const SHOWN_STEPS = 200;
+function searchSteps(name, last) {
+  const before = states[Math.max(0, place - 1)], old = before.searches[pointPlace(before, name)], items = [];
+  const kept = old ? common(old, last) : last.n;
+  for (let step = last; step.n > 0 && items.length < SHOWN_STEPS; step = step.before) {
+    items.push(node('li', step.n > kept ? node('b', reason(step)) : reason(step), {value: step.n}));
+  }
+  const more = last.n - items.length, note = more > 0 ? [node('p', 'the last ' + items.length + ' of ' + last.n + ' steps')] : [];
+  return node('div', [...note, node('ol', items.reverse())], {class: 'search'});
+}
+// The search is folded, until the reader opens it. Only then the details have it.
+let isSearchOpen = false;
+function searchParts({name, search, frontier}) {
+  const counts = table('frontier: events of', frontier.map((n, p) => [processes[p].name, n < 0 ? 'past' : String(n)]));
+  counts.className = 'counts';
+  return node('div', [counts, searchSteps(name, search)], {class: 'parts'});
+}
+function searchDetails(point) {
+  const {n} = point.search, heading = n === 0 ? 'no state was ruled out' : n === 1 ? '1 state was ruled out' : n + ' states were ruled out';
+  const made = node('details', node('summary', 'search: ' + heading), isSearchOpen ? {open: ''} : {});
+  if (isSearchOpen) made.append(searchParts(point));
+  made.ontoggle = () => {
+    if (isSearchOpen === made.open) return;
+    isSearchOpen = made.open;
+    if (isSearchOpen) made.append(searchParts(points.find(({name}) => name === point.name) || point)); else made.lastChild.remove();
+  };
+  return made;
+}
+
+// The parts of a predicate, as one condition.
+function predicateOf({parts}) { return parts.map(([p, text, shown]) => processes[p].name + ' ' + (shown || text)).join(' and '); }
+// A process in a cut: its events in it and in all, its part of the predicate, since when that holds, and its variables.
+function cutRow({cut, parts}, p) {
+  const n = cut[p], part = parts.find(([q]) => q === p), made = state.lines[p].done.n;
+  const values = [...valuesAt(madeEvent(p, n)), ...countsOf(part ? part[1] : '', p, n)].map(([name, value]) => name + '=' + value).join(' ');
+  return [unbroken(processes[p].name), n + ' of ' + made, part ? unbroken(part[2] || part[1]) : '', part ? heldSince(part[1], p, n) : '', values];
+}
+// A text that no line break divides, unless it is long.
+function unbroken(text) { return text.length > 20 ? text : node('span', text, {class: 'whole'}); }
+// The counts of messages that a part names, after n events of process p.
+function countsOf(text, p, n) {
+  return [...new Set(text.match(/\b(?:sent|got)\(\w+\)/g) || [])].map(count => {
+    const [way, name] = count.split(/[()]/), other = processes.findIndex(process => process.name === name);
+    const events = way === 'sent' ? shown.channel(p, other).sent : shown.channel(other, p).got;
+    return [count, String(firstWhere(events, event => event.n > n))];
+  });
+}
+const HEADS = ['process', 'events', 'predicate', 'part', 'variables'];
+// The state in the cut. The processes that the predicate names come first.
+function cutDetails(point) {
+  const {name, parts} = point, isNamed = p => parts.some(([q]) => q === p);
+  const order = [...processes.keys()].sort((p, q) => isNamed(q) - isNamed(p)), rows = order.map(p => cutRow(point, p));
+  const made = table('state in the cut', rows), channels = crossing(point);
+  made.createTHead().append(node('tr', HEADS.map(head => node('th', head, {scope: 'col'}))));
+  made.className = 'state';
+  parts.forEach((part, i) => made.rows[i + 1].className = 'part');
+  const ways = channels.map(({from, to, values}) => [processes[from].name + ' to ' + processes[to].name, values.join(' ')]);
+  const messages = ways.length > 0 ? table('messages that cross the cut', ways) : node('p', 'no message crosses the cut', {class: 'caption'});
+  const heading = state.halting === name ? 'halted by ' + name : 'breakpoint ' + name;
+  return [node('h2', heading), node('p', node('code', predicateOf(point)), {class: colourOf(name)}),
+    node('div', [made, messages], {class: 'parts'}), searchDetails(point)];
+}
+function pointDetails(name) {
+  const point = points.find(point => point.name === name);
+  if (!point) return [node('h2', 'breakpoint ' + name), node('p', hidden.points.has(name) ? 'hidden' : 'not set here')];
+  const found = state.halting === name ? ', halts the session' : point.cut ? ', has a cut' : ', has no cut';
+  const mark = node('p', (point.armed ? 'armed' : 'not armed') + found);
+  if (point.cut) return [...cutDetails(point), mark];
+  return [node('h2', 'breakpoint ' + name), node('p', node('code', predicateOf(point)), {class: colourOf(name)}), mark, searchDetails(point)];
+}
+
+// The lines that are listed. Row 0 is the start. A row stays as long as its line is visible, so that a selection of its text stays.
+const HIGH = 42, list = listArea.querySelector('.window'), rows = new Map();
+function makeRow(n) {
+  const [text, reply] = n === 0 ? ['start', ''] : lines[n - 1];
+  const kind = /^no\b/.test(reply) ? ' refused' : / halted \w+$/.test(reply) ? ' halts' : '';
+  const parts = [node('span', n || '', {class: 'number'}), node('div', text), node('div', reply || ' ', {class: 'reply' + kind})];
+  const row = node('div', parts, {role: 'option', id: 'line' + n, title: text + (reply && ' -> ' + reply)});
+  row.line = n;
+  rows.set(n, row);
+  return list.appendChild(row);
+}
+function paintLines() {
+  const high = listArea.clientHeight, top = listScroll.offset, first = Math.floor(top / HIGH);
+  const seen = listed.slice(first, first + Math.ceil(high / HIGH) + 1);
+  list.style.height = high + 'px';
+  for (const [n, row] of rows) {
+    if (n >= seen[0] && n <= seen[seen.length - 1] && listed[listPlace(n)] === n) continue;
+    rows.delete(n);
+    row.remove();
+  }
+  seen.forEach((n, i) => {
+    const row = rows.get(n) || makeRow(n);
+    row.style.top = (first + i) * HIGH - top + 'px';
+    set(row, {class: n === place ? 'row chosen' : 'row', 'aria-selected': n === place});
+    set(row, {'aria-posinset': first + i + 1, 'aria-setsize': listed.length});
+  });
+  set(listArea, {'aria-activedescendant': 'line' + listed[listPlace(place)]});
+}
+function revealLine() {
+  const top = listPlace(place) * HIGH, seen = listArea.clientHeight;
+  if (top < listScroll.offset || top + HIGH > listScroll.offset + seen) listScroll.offset = top - (seen - HIGH) / 2;
+}
+function relist() {
+  listLines();
+  listScroll.resize(listed.length * HIGH);
+}
+relist();
+
 // The program as it was written, up to the lines of the session, with the command of the chosen event, or of the event that the line made, marked.
 const programLines = readable(session.program || '').split(/^%%\s*$/m)[0].replace(/\s+$/, '').split('\n');
 // A line of the program, with as many signs, in which comments and their words are blank.
@@ -74,18 +190,26 @@ function showProgram(isOn) {
 function toggleProgram() { showProgram(!isProgramShown); }
 showProgram(Boolean(session.program) && innerWidth >= 1100);
 
-// The address ends in the number of the line. After a colon, the chosen breakpoint follows, or the chosen process and the number of its event.
-function addressEnd() {
-  const {point, p, n} = chosen || {};
-  return '#' + place + (!chosen ? '' : point !== undefined ? ':' + point : ':' + processes[p].name + ':' + n);
+// The address ends in the number of the line. After a colon, the chosen breakpoint follows, or the chosen process and the number of its event,
+// or the processes and the number of a message.
+function choiceEnd({point, p, n, from, to, message}) {
+  if (point !== undefined) return ':' + point;
+  return message !== undefined ? ':' + [processes[from].name, processes[to].name, message + 1].join(':') : ':' + processes[p].name + ':' + n;
+}
+function addressEnd() { return '#' + place + (chosen ? choiceEnd(chosen) : ''); }
+function choiceAt(names) {
+  const places = names.map(name => processes.findIndex(process => process.name === name)), [p, q] = places, last = names[names.length - 1];
+  const number = /^\d+$/.test(last) ? Number(last) : -1;
+  if (names.length === 3 && p >= 0 && q >= 0 && number > 0) return {from: p, to: q, message: number - 1};
+  if (names.length === 2 && p >= 0 && number >= 0) return {p, n: number};
+  return names.length === 1 && last ? {point: last} : null;
 }
 // Shows what the end of an address names, and otherwise where the session halts first. What was shown before no longer becomes the address.
 function openAt(end) {
   clearTimeout(addressWaits);
-  const [line, name, n] = end.slice(1).split(':'), p = processes.findIndex(process => process.name === name);
+  const [line, ...names] = end.slice(1).split(':');
   if (/^\d+$/.test(line)) place = Math.min(lines.length, Number(line));
-  if (/^\d+$/.test(n) && p >= 0) chosen = {p, n: Number(n)};
-  else chosen = name && n === undefined ? {point: name} : null;
+  chosen = choiceAt(names);
   show({isMoved: true, isChosen: chosen !== null});
 }
 // The file's name, from the address of the page, without its ending; or else the names of the processes.
@@ -147,6 +271,24 @@ function copyLink() {
   writeAddress();
   copyText(location.href.replace(/#.*/, '') + addressEnd(), find('copy'));
 }
+// What is said of the state, as text: the line with its reply, and the details. Cells are below each other.
+function tableText(table) {
+  const texts = [...table.rows].map(row => [...row.cells].map(cell => cell.textContent.trim()));
+  const widths = texts.reduce((all, row) => row.map((text, i) => Math.max(all[i] || 0, text.length)).concat(all.slice(row.length)), []);
+  const lines = texts.map(row => '  ' + row.map((text, i) => text.padEnd(widths[i] + 2)).join('').trimEnd());
+  return [...table.caption.textContent ? [table.caption.textContent] : [], ...lines];
+}
+function textOf(part) {
+  if (part.matches('.help, details')) return [];
+  if (part.matches('table')) return tableText(part);
+  if (part.matches('.parts')) return [...part.children].flatMap(textOf);
+  const parts = [...part.childNodes].filter(child => child.nodeType === 3 || !child.matches('[aria-label^="Copy"]'));
+  return [parts.map(child => child.textContent).join('').trim()];
+}
+function copyAsText() {
+  const parts = [...find('details').children].flatMap(part => part.matches('h2') ? ['', ...textOf(part)] : textOf(part));
+  copyText([sessionName(), find('said').textContent, ...parts].join('\n') + '\n', find('text'));
+}
 
 // The whole drawing as a file of its own: each shape with the look that it has here.
 const LOOKS = ['fill', 'fill-opacity', 'stroke', 'stroke-width', 'stroke-dasharray', 'stroke-linejoin', 'opacity', 'color', 'font-family',
@@ -177,138 +319,4 @@ function save() {
   setTimeout(() => URL.revokeObjectURL(link.href), 10000);
   confirmIn(find('save'), 'saved');
 }
-
-// The search finds lines by their text and reply, events by what they did, and values that processes have now.
-const FOUND = 50, searchField = find('search'), results = find('results');
-let atResult = -1;
-// The events that line n made.
-function madeBy(n) {
-  return states[n].lines.flatMap(({done}, p) => {
-    const old = states[n - 1].lines[p].done, made = [];
-    for (let event = done; event.n > old.n && made.length < FOUND; event = event.before) made.push(event);
-    return made.reverse();
-  });
-}
-function findValues(has) {
-  return state.lines.flatMap(({done}, p) => [...valuesAt(done)].map(([name, value]) => name + '=' + value).filter(has)
-    .map(text => ({text: processes[p].name + ' has ' + text + ' now', line: place, chosen: {p, n: done.n}})));
-}
-function findLine(n, has) {
-  const [text, reply] = lines[n - 1], found = [];
-  if (has(text + ' -> ' + reply)) found.push({text: 'line ' + n + ': ' + text + (reply && ' -> ' + reply), line: n, chosen: null});
-  if (states[n].lines === states[n - 1].lines) return found;
-  for (const event of madeBy(n)) {
-    const whole = 'event ' + event.n + ' of ' + processes[event.p].name + ': ' + deeds(event);
-    if (has(whole)) found.push({text: 'line ' + n + ', ' + whole, line: n, chosen: {p: event.p, n: event.n}});
-  }
-  return found;
-}
-// The lines after the current one come first, and then those from the start.
-function findAll(words) {
-  const sought = words.toLowerCase().split(/\s+/).filter(word => word), has = text => sought.every(word => text.toLowerCase().includes(word));
-  if (sought.length === 0) return [];
-  const found = findValues(has).slice(0, 10);
-  for (let i = 0; i < lines.length && found.length < FOUND; i++) found.push(...findLine((place + i) % lines.length + 1, has));
-  return found;
-}
-function markResult(n) {
-  atResult = Math.max(-1, Math.min(results.children.length - 1, n));
-  [...results.children].forEach((item, i) => set(item, {'aria-selected': i === atResult}));
-  if (atResult < 0) return searchField.removeAttribute('aria-activedescendant');
-  set(searchField, {'aria-activedescendant': 'result' + atResult});
-  results.children[atResult].scrollIntoView({block: 'nearest'});
-}
-function showResults() {
-  const found = findAll(searchField.value);
-  results.replaceChildren(...found.map((result, i) => {
-    const item = node('div', result.text, {role: 'option', id: 'result' + i});
-    item.onclick = () => take(result);
-    return item;
-  }));
-  if (found.length === 0 && searchField.value.trim()) results.append(node('div', 'nothing found', {class: 'note'}));
-  set(searchField, {'aria-expanded': found.length > 0});
-  results.classList.toggle('open', results.childElementCount > 0);
-  Object.assign(results, {found, sought: searchField.value});
-  markResult(found.length > 0 ? 0 : -1);
-}
-function take(result) {
-  if (!result) return;
-  closeSearch();
-  go(result.line);
-  choose(result.chosen);
-}
-function openSearch() {
-  searchField.focus();
-  searchField.select();
-}
-function closeSearch() {
-  results.classList.remove('open');
-  set(searchField, {'aria-expanded': false});
-  listArea.focus();
-}
-let searchWaits = 0;
-searchField.addEventListener('input', () => {
-  clearTimeout(searchWaits);
-  searchWaits = setTimeout(showResults, lines.length > 5000 ? 200 : 0);
-});
-searchField.addEventListener('keydown', event => {
-  if (event.key === 'Escape') closeSearch();
-  else if (event.key === 'ArrowDown') markResult(atResult + 1);
-  else if (event.key === 'ArrowUp') markResult(Math.max(0, atResult - 1));
-  else if (event.key === 'Enter') {
-    clearTimeout(searchWaits);
-    if (!results.classList.contains('open') || results.sought !== searchField.value) showResults();
-    take(results.found[Math.max(0, atResult)]);
-  } else return;
-  event.preventDefault();
-  event.stopPropagation();
-});
-searchField.addEventListener('blur', () => setTimeout(() => {
-  if (document.activeElement !== searchField) results.classList.remove('open');
-}, 200));
-
-// A choice of what is shown, as a check box.
-function checkBox(text, isOn, change) {
-  const box = node('input', '', {type: 'checkbox'});
-  box.checked = isOn;
-  box.onchange = () => {
-    change(box.checked);
-    show({isMoved: true, isChosen: true});
-  };
-  return node('label', [box, ' ' + text]);
-}
-function hide(keys, key, isShown) {
-  if (isShown) keys.delete(key); else keys.add(key);
-}
-function boxes(legend, made) { return node('fieldset', [node('legend', legend), ...made]); }
-// All breakpoints that the session ever has.
-function pointNames() {
-  const names = new Set();
-  let last = null;
-  for (const {points} of states) if (points !== last) for (const {name} of last = points) names.add(name);
-  return [...names];
-}
-function fillChoices() {
-  const ofProcesses = processes.map(({name}, p) => checkBox(name, true, isShown => {
-    hide(hidden.processes, p, isShown);
-    placeRows();
-  }));
-  const ofPoints = pointNames().map(name => checkBox(name, true, isShown => hide(hidden.points, name, isShown)));
-  const questions = checkBox('questions, as cut and vars', true, isShown => {
-    hidden.isQuestions = !isShown;
-    relist();
-  });
-  find('choices').append(boxes('processes', ofProcesses), boxes('lines', [questions]));
-  if (ofPoints.length > 0) find('choices').lastChild.before(boxes('breakpoints', ofPoints));
-}
-fillChoices();
-// A click elsewhere and Escape close the choices.
-const shownPart = find('shown');
-document.addEventListener('click', event => { if (!shownPart.contains(event.target)) shownPart.open = false; });
-shownPart.addEventListener('keydown', event => {
-  if (event.key !== 'Escape') return;
-  shownPart.open = false;
-  shownPart.querySelector('summary').focus();
-  event.stopPropagation();
-});
 "#;

@@ -1,6 +1,169 @@
 //! `tests/run page_sources --update` writes this file from `page/page.html` and what that includes.
 
 pub(super) static TEXT: &str = r#"
+// The search finds lines by their text and reply, events by what they did, and values that processes have now.
+const FOUND = 50, searchField = find('search'), results = find('results');
+let atResult = -1;
+// The events that line n made.
+function madeBy(n) {
+  return states[n].lines.flatMap(({done}, p) => {
+    const old = states[n - 1].lines[p].done, made = [];
+    for (let event = done; event.n > old.n && made.length < FOUND; event = event.before) made.push(event);
+    return made.reverse();
+  });
+}
+function findValues(has) {
+  return state.lines.flatMap(({done}, p) => [...valuesAt(done)].map(([name, value]) => name + '=' + value).filter(has)
+    .map(text => ({text: processes[p].name + ' has ' + text + ' now', line: place, chosen: {p, n: done.n}})));
+}
+function findLine(n, has) {
+  const [text, reply] = lines[n - 1], found = [];
+  if (has(text + ' -> ' + reply)) found.push({text: 'line ' + n + ': ' + text + (reply && ' -> ' + reply), line: n, chosen: null});
+  if (states[n].lines === states[n - 1].lines) return found;
+  for (const event of madeBy(n)) {
+    const whole = 'event ' + event.n + ' of ' + processes[event.p].name + ': ' + deeds(event);
+    if (has(whole)) found.push({text: 'line ' + n + ', ' + whole, line: n, chosen: {p: event.p, n: event.n}});
+  }
+  return found;
+}
+// The lines after the current one come first, and then those from the start.
+function findAll(words) {
+  const sought = words.toLowerCase().split(/\s+/).filter(word => word), has = text => sought.every(word => text.toLowerCase().includes(word));
+  if (sought.length === 0) return [];
+  const found = findValues(has).slice(0, 10);
+  for (let i = 0; i < lines.length && found.length < FOUND; i++) found.push(...findLine((place + i) % lines.length + 1, has));
+  return found;
+}
+function markResult(n) {
+  atResult = Math.max(-1, Math.min(results.children.length - 1, n));
+  [...results.children].forEach((item, i) => set(item, {'aria-selected': i === atResult}));
+  if (atResult < 0) return searchField.removeAttribute('aria-activedescendant');
+  set(searchField, {'aria-activedescendant': 'result' + atResult});
+  results.children[atResult].scrollIntoView({block: 'nearest'});
+}
+function showResults() {
+  const found = findAll(searchField.value);
+  results.replaceChildren(...found.map((result, i) => {
+    const item = node('div', result.text, {role: 'option', id: 'result' + i});
+    item.onclick = () => take(result);
+    return item;
+  }));
+  if (found.length === 0 && searchField.value.trim()) results.append(node('div', 'nothing found', {class: 'note'}));
+  set(searchField, {'aria-expanded': found.length > 0});
+  results.classList.toggle('open', results.childElementCount > 0);
+  Object.assign(results, {found, sought: searchField.value});
+  markResult(found.length > 0 ? 0 : -1);
+}
+function take(result) {
+  if (!result) return;
+  closeSearch();
+  go(result.line);
+  choose(result.chosen);
+}
+function openSearch() {
+  searchField.focus();
+  searchField.select();
+}
+function closeSearch() {
+  results.classList.remove('open');
+  set(searchField, {'aria-expanded': false});
+  listArea.focus();
+}
+let searchWaits = 0;
+searchField.addEventListener('input', () => {
+  clearTimeout(searchWaits);
+  searchWaits = setTimeout(showResults, lines.length > 5000 ? 200 : 0);
+});
+searchField.addEventListener('keydown', event => {
+  if (event.key === 'Escape') closeSearch();
+  else if (event.key === 'ArrowDown') markResult(atResult + 1);
+  else if (event.key === 'ArrowUp') markResult(Math.max(0, atResult - 1));
+  else if (event.key === 'Enter') {
+    clearTimeout(searchWaits);
+    if (!results.classList.contains('open') || results.sought !== searchField.value) showResults();
+    take(results.found[Math.max(0, atResult)]);
+  } else return;
+  event.preventDefault();
+  event.stopPropagation();
+});
+searchField.addEventListener('blur', () => setTimeout(() => {
+  if (document.activeElement !== searchField) results.classList.remove('open');
+}, 200));
+
+// A choice of what is shown, as a check box.
+function checkBox(text, isOn, change) {
+  const box = node('input', '', {type: 'checkbox'});
+  box.checked = isOn;
+  box.onchange = () => {
+    change(box.checked);
+    show({isMoved: true, isChosen: true});
+  };
+  return node('label', [box, ' ' + text]);
+}
+function hide(keys, key, isShown) {
+  if (isShown) keys.delete(key); else keys.add(key);
+}
+function boxes(legend, made) { return node('fieldset', [node('legend', legend), ...made]); }
+// All breakpoints that the session ever has.
+function pointNames() {
+  const names = new Set();
+  let last = null;
+  for (const {points} of states) if (points !== last) for (const {name} of last = points) names.add(name);
+  return [...names];
+}
+function fillChoices() {
+  const ofProcesses = processes.map(({name}, p) => checkBox(name, true, isShown => {
+    hide(hidden.processes, p, isShown);
+    placeRows();
+  }));
+  const ofPoints = pointNames().map(name => checkBox(name, true, isShown => hide(hidden.points, name, isShown)));
+  const questions = checkBox('questions, as cut and vars', true, isShown => {
+    hidden.isQuestions = !isShown;
+    relist();
+  });
+  find('choices').append(boxes('processes', ofProcesses), boxes('lines', [questions]));
+  if (ofPoints.length > 0) find('choices').lastChild.before(boxes('breakpoints', ofPoints));
+}
+fillChoices();
+// A click elsewhere and Escape close the choices.
+const shownPart = find('shown');
+document.addEventListener('click', event => { if (!shownPart.contains(event.target)) shownPart.open = false; });
+shownPart.addEventListener('keydown', event => {
+  if (event.key !== 'Escape') return;
+  shownPart.open = false;
+  shownPart.querySelector('summary').focus();
+  event.stopPropagation();
+});
+
+// Bars between two areas, which a pointer or arrow keys move. They set how wide the list of lines is, and how high the details are, in percent.
+const splitters = {
+  beside: {least: 10, most: 60, back: 'ArrowLeft', on: 'ArrowRight', at: event => 100 * event.clientX / innerWidth},
+  above: {least: 10, most: 80, back: 'ArrowDown', on: 'ArrowUp', at: event => 100 * (innerHeight - event.clientY) / innerHeight},
+};
+function split(name, percent) {
+  const {least, most} = splitters[name], value = Math.round(Math.max(least, Math.min(most, percent)));
+  document.body.style.setProperty('--' + name, value + '%');
+  set(find(name), {'aria-valuenow': value});
+  show({});
+}
+// How much there is now, in percent.
+function share(name) {
+  const area = find(find(name).getAttribute('aria-controls'));
+  return name === 'beside' ? 100 * area.offsetWidth / innerWidth : 100 * area.offsetHeight / innerHeight;
+}
+for (const name in splitters) {
+  const bar = find(name), {least, most, back, on, at} = splitters[name];
+  set(bar, {'aria-valuemin': least, 'aria-valuemax': most, 'aria-valuenow': Math.round(share(name))});
+  bar.onpointerdown = event => bar.setPointerCapture(event.pointerId);
+  bar.onpointermove = event => bar.hasPointerCapture(event.pointerId) && split(name, at(event));
+  bar.onkeydown = event => {
+    if (event.key !== back && event.key !== on) return;
+    split(name, share(name) + (event.key === on ? 2 : -2));
+    event.preventDefault();
+    event.stopPropagation();
+  };
+}
+
 // Changes: of the current line, of the chosen event or breakpoint, of the visible part. They are drawn once for each frame.
 let waits = null;
 function show(what) {
@@ -141,7 +304,7 @@ find('halts').append(...halts.slice(0, 100).map(n => node('option', '', {value: 
 find('slider').oninput = event => go(Number(event.target.value));
 const buttons = {
   first: () => step(-Infinity), before: () => step(-1), next: () => step(1), last: () => step(Infinity), play: () => play(!playing),
-  narrower: () => zoom(.8), wider: () => zoom(1.25), fit, copy: copyLink, save, code: toggleProgram,
+  narrower: () => zoom(.8), wider: () => zoom(1.25), fit, text: copyAsText, copy: copyLink, save, code: toggleProgram,
 };
 for (const name in buttons) find(name).onclick = buttons[name];
 listArea.onscroll = area.onscroll = () => show({});

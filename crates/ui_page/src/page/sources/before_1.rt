@@ -10,8 +10,8 @@ pub(super) static TEXT: &str = r#"<!DOCTYPE html>
 <title>A session of rdbg</title>
 <noscript><style>
 body { display: block !important; height: auto !important; padding: 8px 16px; }
-header, #lines, #right { display: none !important; }
-#session { display: block; font: 12px/1.5 monospace; white-space: pre-wrap; overflow-wrap: anywhere; }
+header, #lines, #right, .splitter { display: none !important; }
+pre { overflow: auto; }
 </style></noscript>
 <style>
 :root {
@@ -31,14 +31,15 @@ header, #lines, #right { display: none !important; }
 }
 * { box-sizing: border-box; }
 body {
-  margin: 0; height: 100vh; height: 100dvh; display: grid; grid-template: auto minmax(0, 1fr) / clamp(15rem, 25vw, 26rem) minmax(0, 1fr);
+  margin: 0; height: 100vh; height: 100dvh; display: grid;
+  grid-template: auto minmax(0, 1fr) / var(--beside, clamp(15rem, 25vw, 26rem)) 7px minmax(0, 1fr);
   background: var(--ground); color: var(--text); font: 14px/1.4 system-ui, sans-serif;
 }
 :focus-visible { outline: 3px solid var(--focus); outline-offset: -2px; }
 g:focus-visible { outline: none; }
 code, .row, text, #program, #results, #details td { font-family: ui-monospace, "DejaVu Sans Mono", Menlo, Consolas, monospace; font-size: 12px; }
 header {
-  grid-column: 1 / 3; min-width: 0; display: flex; flex-wrap: wrap; gap: 4px 8px; align-items: center; padding: 6px 10px; background: var(--area);
+  grid-column: 1 / 4; min-width: 0; display: flex; flex-wrap: wrap; gap: 4px 8px; align-items: center; padding: 6px 10px; background: var(--area);
 }
 header, #points, #details, #program, #overview { border: 0 solid var(--edge); border-bottom-width: 1px; }
 header h1 { font-size: 14px; margin: 0 6px 0 0; }
@@ -67,7 +68,10 @@ button[aria-pressed=true], #shown[open] summary { background: var(--chosen); bor
 #results div { padding: 3px 8px; cursor: pointer; overflow-wrap: anywhere; }
 #results [aria-selected=true] { background: var(--chosen); outline: 1px solid var(--focus); outline-offset: -1px; }
 #lines, #drawing { overflow: auto; position: relative; }
-#lines { border-right: 1px solid var(--edge); }
+.splitter { position: relative; z-index: 1; flex: none; background: var(--area); border: 0 solid var(--edge); touch-action: none; }
+#beside { border-width: 0 1px; cursor: col-resize; }
+#above { border-width: 1px 0; height: 7px; cursor: row-resize; }
+.splitter:hover { background: var(--edge); }
 .window { position: sticky; top: 0; left: 0; overflow: hidden; display: block; }
 .row {
   position: absolute; left: 0; right: 0; height: 42px; padding: 2px 8px 2px 5.4em; cursor: pointer; white-space: pre;
@@ -93,7 +97,7 @@ button[aria-pressed=true], #shown[open] summary { background: var(--chosen); bor
 #overview svg { display: block; }
 #overview path { stroke: var(--event); stroke-width: 3; }
 #overview rect { fill: var(--chosen); fill-opacity: .35; stroke: var(--focus); stroke-width: 2; }
-#below { display: flex; flex: none; height: 33vh; border-top: 1px solid var(--edge); }
+#below { display: flex; flex: none; height: var(--above, 33vh); }
 #program {
   display: none; flex: 2; min-width: 0; overflow: auto; padding: 6px 12px; border-width: 0 0 0 1px; white-space: pre-wrap; overflow-wrap: anywhere;
   tab-size: 4; counter-reset: line;
@@ -107,6 +111,8 @@ mark { background: var(--chosen); color: inherit; outline: 1px solid var(--focus
 #details { border-width: 0; flex: 3; min-width: 0; overflow: auto; padding: 6px 12px; }
 #details h2 { font-size: 14px; margin: 0 0 4px; }
 #details p { margin: 0 0 4px; overflow-wrap: anywhere; }
+#details .explained { white-space: pre-wrap; }
+#details button { padding: 0 6px; }
 #details .parts { display: flex; flex-wrap: wrap; align-items: flex-start; gap: 4px 28px; }
 #details table { border-collapse: collapse; }
 #details th { text-align: left; font-weight: normal; color: var(--weak); vertical-align: top; }
@@ -156,6 +162,9 @@ g { cursor: inherit; }
 .names :focus-visible rect { stroke: var(--focus); stroke-width: 5; }
 .arrow line, .arrow path { stroke: var(--arrow); stroke-width: 1.5; fill: var(--arrow); }
 .arrow text { text-anchor: middle; }
+.arrow { cursor: pointer; }
+.arrow.chosen line, .arrow.chosen path { stroke: var(--text); stroke-width: 4; }
+.arrow.chosen text { font-weight: bold; }
 .arrow.flying line { stroke-dasharray: 4 3; }
 .arrow.flying path { fill: none; }
 .arrow.crossing line, .arrow.crossing path { stroke: currentColor; stroke-width: 2.5; }
@@ -178,15 +187,17 @@ g { cursor: inherit; }
 
 .outside { position: fixed; left: -99rem; }
 @media (max-width: 700px) {
-  body { grid-template: auto minmax(4rem, 15vh) minmax(0, 1fr) / minmax(0, 1fr); }
+  body { grid-template: auto minmax(0, 1fr) minmax(4rem, 12vh) / minmax(0, 1fr); }
+  #beside { display: none; }
+  #lines { order: 1; }
   header { grid-column: 1; padding: 4px 6px; gap: 4px; }
   header h1 { display: none; }
   header button, #shown summary { padding: 2px 7px; }
   #slider { min-width: 6rem; }
   #search { width: 6.5rem; }
   #said { max-height: 2.8em; }
-  #lines { border-right: 0; border-bottom: 1px solid var(--edge); }
-  #below { height: 38vh; }
+  #lines { border-top: 1px solid var(--edge); }
+  #below { height: var(--above, 38vh); }
   #below.with-program { flex-direction: column; height: 46vh; }
   #program { border-width: 1px 0 0; }
   #choices { position: fixed; left: 6px; right: 6px; top: auto; flex-wrap: wrap; }
@@ -194,6 +205,16 @@ g { cursor: inherit; }
   #details table { display: block; overflow-x: auto; }
   #details .state thead { display: none; }
   #details .state tr { display: flex; flex-wrap: wrap; padding-bottom: 4px; }
+}
+@media (max-height: 480px) {
+  body { display: flex; flex-direction: column; height: auto; }
+  .splitter { display: none; }
+  #lines { order: 1; height: 5.4rem; }
+  #right { display: block; }
+  #drawing { height: 75vh; height: 75dvh; }
+  #below, #below.with-program { display: block; height: auto; border-top: 1px solid var(--edge); }
+  #details, #program { overflow: visible; }
+  #details table { display: block; overflow-x: auto; }
 }
 @media (forced-colors: active) {
   .line line, .event ellipse, .arrow line, .arrow path, .cut path { stroke: CanvasText; }
@@ -219,7 +240,7 @@ g { cursor: inherit; }
 }
 @media print {
   body { display: block; height: auto; }
-  header > :not(#said), #lines, #overview, #details .help, #details details:not([open]) { display: none; }
+  header > :not(#said), #lines, #overview, .splitter, #details .help, #details details:not([open]) { display: none; }
   header, #points { background: none; padding: 4px 0; }
   #said, #points { max-height: none; }
   #right { display: block; }
@@ -247,6 +268,7 @@ g { cursor: inherit; }
 <button id=fit title="Fit the drawing to the window (f)" aria-pressed=false>fit</button>
 <button id=code title="The text of the program (p)" aria-pressed=false>program</button>
 <details id=shown><summary id=choose>show</summary><div id=choices></div></details>
+<button id=text title="Copy what is said of this state as text">copy text</button>
 <button id=copy title="Copy the address of what is shown">copy link</button>
 <button id=save title="Save the whole drawing as an SVG file">save SVG</button>
 <div id=finder>
@@ -257,10 +279,12 @@ g { cursor: inherit; }
 <div id=said role=status aria-live=polite></div>
 </header>
 <div id=lines role=listbox tabindex=0 aria-label="Lines of the session with their replies"><div><div class=window></div></div></div>
+<div id=beside class=splitter role=separator tabindex=0 aria-orientation=vertical aria-controls=lines aria-label="Width of the list"></div>
 <div id=right>
 <div id=points role=group aria-label="Breakpoints"></div>
 <div id=drawing tabindex=-1><div><svg class=window role=group></svg></div></div>
 <div id=overview aria-hidden=true><svg></svg></div>
+<div id=above class=splitter role=separator tabindex=0 aria-orientation=horizontal aria-controls=below aria-label="Height of the details"></div>
 <div id=below>
 <section id=details aria-label="Details" tabindex=0></section>
 <section id=program aria-label="Program" tabindex=0></section>
@@ -268,8 +292,7 @@ g { cursor: inherit; }
 </div>
 <noscript>
 <h1>A session of rdbg</h1>
-<p>Scripts are off, so there is no drawing. This is the session as the page has it: the processes, the program, what each line did, and the lines
-with their replies.</p>
-</noscript>
-<script id=session type=application/json>
+<p>Scripts are off, so one state is shown: where the session halts first, or else its end. The events of a process are in its column, the
+earliest at the top.</p>
+<pre>
 "#;
