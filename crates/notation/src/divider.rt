@@ -1,6 +1,6 @@
 //! How a command line is divided into pieces.
 
-use crate::pieces::{LinePiece, LinePieces, Meant, Reading};
+use notation_meaning::{CommandLine, LinePiece, Meant, Reading, Segment};
 use notation_parser::parser::ModelParser;
 use notation_programs::building::ProcessCopy;
 use notation_programs::expansion::Expansion;
@@ -12,11 +12,15 @@ use notation_tree::syntax::{Binder, DeclarationNode, Expression, Reference};
 use notation_tree::token::{Mark, SourceToken, SourceTokenKind};
 use std::alloc::{AllocError, Global};
 
-/// Divides a line into pieces.
+/// Divides a line into segments.
 #[derive(Drop)]
 pub(crate) struct Divider<'a> {
     parser: ModelParser<'a>,
     expansion: &'a Expansion,
+    segments: Vec<Segment>,
+    // The present segment: where it begins, with the ranges before it and without them, and its pieces.
+    from: usize,
+    inner: usize,
     pieces: Vec<LinePiece>,
 }
 
@@ -66,6 +70,9 @@ impl<'a> Divider<'a> {
         Divider {
             parser: ModelParser::new(alloc, line, tokens, scope, expansion.source, members),
             expansion,
+            segments: Vec::new(alloc),
+            from: 0,
+            inner: 0,
             pieces: Vec::new(alloc),
         }
     }
@@ -86,6 +93,31 @@ impl<'a> Divider<'a> {
         let to = self.end();
         self.pieces.push(LinePiece { from, to, meant })?;
         Ok(())
+    }
+
+    // Ends the present segment, which has these ranges, at this offset. The next one begins there.
+    fn end_segment(&mut self, ranges: Vec<Binder>, to: usize) -> Expanding<()> {
+        let nothing = Vec::new(self.parser.alloc);
+        let pieces = std::mem::replace(&mut self.pieces, nothing);
+        self.segments.push(Segment {
+            from: self.from,
+            start: self.inner,
+            to,
+            ranges,
+            pieces,
+        })?;
+        self.from = to;
+        self.inner = to;
+        Ok(())
+    }
+
+    // Ends the present segment before the ranges at the next token, and reads these. The next segment begins after them.
+    fn begin_repeated(&mut self) -> Expanding<Vec<Binder>> {
+        let from = self.start();
+        let ranges = self.ranges()?;
+        self.end_segment(Vec::new(self.parser.alloc), from)?;
+        self.inner = self.start();
+        Ok(ranges)
     }
 
     // Whether indices follow the next token.
@@ -210,19 +242,12 @@ impl<'a> Divider<'a> {
 
     // A part for each member of ranges.
     fn repeat(&mut self) -> Expanding<()> {
-        let from = self.start();
         let mark = self.parser.scope.mark();
-        let ranges = self.ranges()?;
-        let start = self.start();
-        let place = self.pieces.len();
+        let ranges = self.begin_repeated()?;
         self.part()?;
         self.parser.scope.leave(mark);
         let to = self.end();
-        let count = self.pieces.len().saturating_sub(place);
-        let meant = Meant::Repeat(ranges, start, count);
-        let repeat = LinePiece { from, to, meant };
-        self.pieces.insert(place.min(self.pieces.len()), repeat)?;
-        Ok(())
+        self.end_segment(ranges, to)
     }
 
     // A word, or another token. A name with indices becomes a piece.
@@ -282,15 +307,23 @@ impl<'a> Divider<'a> {
         Ok(None)
     }
 
+    // The same, if it is not a name.
+    fn last_number(&mut self) -> Expanding<Option<Expression>> {
+        match self.last_expression()? {
+            Some(Expression::Name(_)) | None => Ok(None),
+            number => Ok(number),
+        }
+    }
+
     // A number that is computed, up to the end of the command.
     fn number(&mut self) -> Expanding<()> {
         if self.is_at_end() || self.is_at_last_number() {
             return Ok(());
         }
         let from = self.start();
-        match self.last_expression()? {
-            Some(Expression::Name(_)) | None => Ok(()),
+        match self.last_number()? {
             Some(expression) => self.put(from, Meant::Number(expression)),
+            None => Ok(()),
         }
     }
 
@@ -321,7 +354,7 @@ impl<'a> Divider<'a> {
             return self.number();
         }
         self.parser.next = first;
-        let number = self.last_expression()?;
+        let number = self.last_number()?;
         self.put(from, Meant::Label(reference, number))
     }
 
@@ -373,25 +406,22 @@ impl<'a> Divider<'a> {
         Ok(self.start())
     }
 
-    /// The pieces of the line.
-    pub(crate) fn line(&mut self) -> Expanding<LinePieces> {
-        let mut ranges = Vec::new(self.parser.alloc);
+    /// What a line of so many bytes is read as.
+    pub(crate) fn line(&mut self, length: usize) -> Expanding<CommandLine> {
+        let alloc = self.parser.alloc;
+        let mut ranges = Vec::new(alloc);
         self.seat();
         if self.is_at_range() {
-            let from = self.start();
-            ranges = self.ranges()?;
-            let to = self.start();
-            let meant = Meant::Nothing;
-            self.pieces.push(LinePiece { from, to, meant })?;
+            ranges = self.begin_repeated()?;
             self.seat();
         }
         self.commands()?;
-        let alloc = self.parser.alloc;
+        self.end_segment(Vec::new(alloc), length)?;
         let members = Vec::from_slice(alloc, self.parser.tables.members.as_slice())?;
-        let pieces = std::mem::replace(&mut self.pieces, Vec::new(alloc));
-        Ok(LinePieces {
+        let segments = std::mem::replace(&mut self.segments, Vec::new(alloc));
+        Ok(CommandLine {
             ranges,
-            pieces,
+            segments,
             members,
         })
     }

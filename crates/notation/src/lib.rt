@@ -6,7 +6,6 @@
 
 mod divider;
 mod line_expander;
-mod pieces;
 mod rendering;
 mod sentences;
 mod session;

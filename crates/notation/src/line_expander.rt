@@ -1,14 +1,18 @@
 //! From command lines to plain lines.
 
-ghost use Rattle.std.specs.Prelude.{length, IfErr};
+ghost use Rattle.std.specs.Prelude.{◌≡◌, [], ◌∷◌, length, IfOk, IfErr};
 ghost use Rattle.notation_tree.specs.Places.{IsInside};
+ghost use Rattle.notation_meaning.specs.CommandLines.{StandsFor};
+ghost use Rattle.notation_meaning.specs.LineViews.{lines_of, played_of};
+ghost use Rattle.notation.specs.Lines.{played_in, IsExpanded};
 
 use crate::divider::Divider;
-use crate::pieces::LinePieces;
 use crate::rendering::Renderer;
+use crate::session::{ExpandedProgram, disagreement};
 use dbg_base::Name;
 use dbg_base::limits::LINE_BYTES;
-use notation_programs::expansion::{Expansion, failed, failed_in};
+use notation_meaning::{CommandLine, PlayedModel, stands_for};
+use notation_programs::expansion::{failed, failed_in};
 use notation_tree::fault::{Expanding, ExpansionStop, NotationError};
 use notation_tree::lexer::tokens;
 use notation_tree::limits::SESSION_STEPS;
@@ -21,24 +25,20 @@ use std::alloc::{AllocError, Global};
 #[derive(Drop)]
 pub struct LineExpander<'a> {
     alloc: Global,
-    expansion: &'a Expansion,
+    expanded: &'a ExpandedProgram,
     names: ModelNames,
+    // What the last line was read as.
+    tree: CommandLine,
     // How many steps are left.
     steps: u32,
     // The plain name of the process that a line named last before its fault.
     process: Option<Name>,
 }
 
-// The line without its comment, and without the blanks before it.
-fn without_comment(line: &[u8]) -> &[u8] {
-    match line.iter().position(|byte| *byte == b'#') {
-        Some(at) => line.get(..at).unwrap_or(line).trim_ascii_end(),
-        None => line,
-    }
-}
-
 // This line alone.
-fn only_line(alloc: Global, line: &[u8]) -> Result<Vec<Vec<u8>>, AllocError> {
+fn only_line(alloc: Global, line: &[u8]) -> Result<Vec<Vec<u8>>, AllocError>
+    ensures { IfOk result (λ lines. lines_of lines.items ≡ line.now ∷ []) }
+{
     let mut lines = Vec::new(alloc);
     lines.push(Vec::from_slice(alloc, line)?)?;
     Ok(lines)
@@ -56,18 +56,16 @@ fn placed(stop: ExpansionStop, base: usize, from: usize) -> ExpansionStop {
     }
 }
 
-// Whether the line is an expected reply.
-fn is_expectation(line: &[u8]) -> bool {
-    line.trim_ascii_start().first() == Some(&b'>')
-}
-
 impl<'a> LineExpander<'a> {
     /// Expands the lines of a session over this model.
-    pub fn new(alloc: Global, expansion: &'a Expansion) -> Result<LineExpander<'a>, AllocError> {
+    pub fn new(alloc: Global, expanded: &'a ExpandedProgram) -> Result<LineExpander<'a>, AllocError>
+        ensures { IfOk result (λ expander. expander.expanded.now ≡ expanded.now) }
+    {
         Ok(LineExpander {
             alloc,
-            expansion,
-            names: ModelNames::new(alloc, &expansion.model.tables)?,
+            expanded,
+            names: ModelNames::new(alloc, &expanded.expansion.model.tables)?,
+            tree: CommandLine::new(alloc),
             steps: SESSION_STEPS,
             process: None,
         })
@@ -80,13 +78,33 @@ impl<'a> LineExpander<'a> {
 
     // Divides the line of these tokens.
     fn divider<'b>(&'b self, line: &'b [u8], tokens: &'b [SourceToken]) -> Divider<'b> {
-        Divider::new(self.alloc, self.expansion, &self.names, line, tokens)
+        Divider::new(
+            self.alloc,
+            &self.expanded.expansion,
+            &self.names,
+            line,
+            tokens,
+        )
     }
 
-    // The pieces of a line.
-    fn divided(&self, line: &[u8]) -> Expanding<LinePieces> {
+    // What a line is read as.
+    fn divided(&self, line: &[u8]) -> Expanding<CommandLine> {
         let tokens = tokens(self.alloc, line)?;
-        self.divider(line, tokens.as_slice()).line()
+        self.divider(line, tokens.as_slice()).line(line.len())
+    }
+
+    // What lines refer to.
+    fn played(&self) -> PlayedModel<'a>
+        ensures { played_of result ≡ played_in self.now.expanded.now }
+    {
+        let expansion = &self.expanded.expansion;
+        PlayedModel {
+            alloc: self.alloc,
+            model: &expansion.model,
+            constants: expansion.built.constants.as_slice(),
+            copies: expansion.built.processes.as_slice(),
+            program: &self.expanded.program,
+        }
     }
 
     /// How many bytes of a line are before its command, if ranges of a `for` are. 0 if none are, or one has a fault.
@@ -99,16 +117,13 @@ impl<'a> LineExpander<'a> {
         }
     }
 
-    // The plain lines of these pieces. No fault is past this offset.
-    fn render(
-        &mut self,
-        line: &[u8],
-        pieces: &LinePieces,
-        length: usize,
-    ) -> Result<Vec<Vec<u8>>, NotationError>
-        ensures { IfErr result (IsInside length) }
+    // Renders the plain lines of a line. No fault is past its end.
+    fn render(&mut self, line: &[u8], tree: &CommandLine) -> Result<Vec<Vec<u8>>, NotationError>
+        ensures inside { IfErr result (IsInside (length line.now)) }
+        ensures same { self.new.expanded ≡ self.old.expanded }
     {
-        let mut renderer = Renderer::new(self.alloc, self.expansion, line, pieces);
+        let expansion = &self.expanded.expansion;
+        let mut renderer = Renderer::new(self.alloc, expansion, line, tree);
         renderer.writer.environment.session_steps = self.steps;
         let rendered = renderer.render();
         self.steps = renderer.writer.environment.session_steps;
@@ -116,31 +131,55 @@ impl<'a> LineExpander<'a> {
             Ok(()) => Ok(renderer.lines),
             Err(stop) => {
                 self.process = Name::new(renderer.process.as_slice());
-                let stop = placed(stop, self.expansion.source, renderer.from);
-                Err(failed_in(&renderer.writer.environment, stop, length))
+                let stop = placed(stop, expansion.source, renderer.from);
+                Err(failed_in(&renderer.writer.environment, stop, line.len()))
             }
         }
     }
 
-    // The plain lines of a line without a comment. No fault is past this offset.
-    fn expand_bare(&mut self, line: &[u8], length: usize) -> Result<Vec<Vec<u8>>, NotationError>
-        ensures { IfErr result (IsInside length) }
+    // The plain lines that a line stands for. No fault is past its end.
+    fn written(&mut self, line: &[u8], tree: &CommandLine) -> Result<Vec<Vec<u8>>, NotationError>
+        ensures stands { IfOk result (λ lines. StandsFor (played_in self.new.expanded.now) line.now tree.now (lines_of lines.items)) }
+        ensures inside { IfErr result (IsInside (length line.now)) }
+        ensures same { self.new.expanded ≡ self.old.expanded }
+    {
+        let lines = self.render(line, tree)?;
+        if stands_for(&self.played(), line, tree, lines.as_slice())? {
+            Ok(lines)
+        } else {
+            Err(disagreement(self.alloc))
+        }
+    }
+
+    // Reads a line, and writes the plain lines that it stands for. No fault is past its end.
+    fn expand_short(&mut self, line: &[u8]) -> Result<Vec<Vec<u8>>, NotationError>
+        ensures stands { IfOk result (λ lines. StandsFor (played_in self.new.expanded.now) line.now self.new.tree (lines_of lines.items)) }
+        ensures inside { IfErr result (IsInside (length line.now)) }
+        ensures same { self.new.expanded ≡ self.old.expanded }
     {
         match self.divided(line) {
-            Ok(pieces) => self.render(line, &pieces, length),
+            Ok(tree) => {
+                let lines = self.written(line, &tree);
+                self.tree = tree;
+                lines
+            }
             Err(stop) => {
-                let stop = placed(stop, self.expansion.source, 0);
-                Err(failed(stop, Vec::new(self.alloc), length))
+                let stop = placed(stop, self.expanded.expansion.source, 0);
+                Err(failed(stop, Vec::new(self.alloc), line.len()))
             }
         }
     }
 
-    /// The plain lines to which a command line expands. A line that has nothing of the notation stays as it is.
+    /// The plain lines that a command line without a comment stands for. A line that has nothing of the notation stays as it is, and so does
+    /// one that is too long.
     pub fn expand(&mut self, line: &[u8]) -> Result<Vec<Vec<u8>>, NotationError>
-        ensures { IfErr result (IsInside (length line.now)) }
+        // They are what its tree means, over the model, its processes and the plain program.
+        ensures stands { IfOk result (λ lines. IsExpanded (played_in self.new.expanded.now) line.now self.new.tree (lines_of lines.items)) }
+        ensures inside { IfErr result (IsInside (length line.now)) }
+        ensures same { self.new.expanded ≡ self.old.expanded }
     {
-        if line.len() <= LINE_BYTES && !is_expectation(line) {
-            return self.expand_bare(without_comment(line), line.len());
+        if line.len() <= LINE_BYTES {
+            return self.expand_short(line);
         }
         Ok(only_line(self.alloc, line)?)
     }

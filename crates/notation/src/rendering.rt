@@ -1,8 +1,8 @@
-//! Writes the plain lines of the pieces of a command line.
+//! Writes the plain lines that a command line stands for.
 
-use crate::pieces::{LinePiece, LinePieces, Meant, Reading};
 use dbg_base::limits::INPUT_BYTES;
 use itoa::Buffer;
+use notation_meaning::{CommandLine, LinePiece, Meant, Reading, Segment};
 use notation_programs::building::{ProcessCopy, put_indices};
 use notation_programs::environment::Environment;
 use notation_programs::expansion::Expansion;
@@ -15,13 +15,13 @@ use notation_tree::syntax::{Binder, DeclarationNode, Expression, Reference, plac
 use notation_tree::token::part;
 use std::alloc::{AllocError, Global};
 
-/// Writes the plain lines of the pieces of a line.
+/// Writes the plain lines of a line.
 #[derive(Drop)]
 pub(crate) struct Renderer<'a> {
     pub(crate) writer: Writer<'a>,
     expansion: &'a Expansion,
     line: &'a [u8],
-    pieces: &'a LinePieces,
+    tree: &'a CommandLine,
     /// The name that was written last.
     pub(crate) process: Vec<u8>,
     // The lines that are written, the one that is being written, and how many bytes they have.
@@ -50,18 +50,18 @@ impl<'a> Renderer<'a> {
         alloc: Global,
         expansion: &'a Expansion,
         line: &'a [u8],
-        pieces: &'a LinePieces,
+        tree: &'a CommandLine,
     ) -> Renderer<'a> {
         let tables = &expansion.model.tables;
         let constants = expansion.built.constants.as_slice();
         let mut environment = Environment::knowing(alloc, tables, constants);
-        environment.line_members = pieces.members.as_slice();
+        environment.line_members = tree.members.as_slice();
         let text = PlainText::new(alloc);
         Renderer {
             writer: Writer { environment, text },
             expansion,
             line,
-            pieces,
+            tree,
             process: Vec::new(alloc),
             lines: Vec::new(alloc),
             present: Vec::new(alloc),
@@ -129,7 +129,7 @@ impl<'a> Renderer<'a> {
         self.put(Buffer::new().format(number).as_bytes())
     }
 
-    // Writes the number of the command of a label, or else the number that this expression gives. Another name remains.
+    // Writes the number of the command of a label, or else the number that this expression gives. Another word remains.
     fn label(&mut self, reference: &'a Reference, number: &'a Option<Expression>) -> Expanding<()> {
         let label = self.label_text(reference)?;
         if let Some(process) = self.last_process() {
@@ -140,9 +140,8 @@ impl<'a> Renderer<'a> {
                 return self.put(buffer.format(number).as_bytes());
             }
         }
-        match number {
-            Some(Expression::Name(_)) | None => {}
-            Some(number) => return self.number(number),
+        if let Some(number) = number {
+            return self.number(number);
         }
         if reference.indices.is_empty() {
             return self.put(reference.name.bytes());
@@ -200,7 +199,7 @@ impl<'a> Renderer<'a> {
         self.put(plain.bytes.as_slice())
     }
 
-    // Writes the plain text of a piece that is not a repetition.
+    // Writes the plain text of a piece.
     fn piece(&mut self, piece: &'a LinePiece) -> Expanding<()> {
         self.from = piece.from;
         match &piece.meant {
@@ -208,7 +207,6 @@ impl<'a> Renderer<'a> {
             Meant::Label(reference, number) => self.label(reference, number),
             Meant::Number(expression) => self.number(expression),
             Meant::Predicate(readings) => self.predicate(piece, readings.as_slice()),
-            Meant::Nothing | Meant::Repeat(_, _, _) => Ok(()),
         }
     }
 
@@ -232,14 +230,9 @@ impl<'a> Renderer<'a> {
         Ok(tuples)
     }
 
-    // Writes a part for each member of these ranges.
-    fn repeat(
-        &mut self,
-        ranges: &'a [Binder],
-        pieces: &'a [LinePiece],
-        from: usize,
-        to: usize,
-    ) -> Expanding<()> {
+    // Writes a segment for each member of its ranges.
+    fn repeat(&mut self, segment: &'a Segment) -> Expanding<()> {
+        let ranges = segment.ranges.as_slice();
         let tuples = self.copies(ranges)?;
         for (number, values) in tuples.iter().enumerate() {
             if number > 0 {
@@ -247,41 +240,36 @@ impl<'a> Renderer<'a> {
             }
             let environment = &mut self.writer.environment;
             let before = environment.enter_all(ranges, values.as_slice())?;
-            self.part(pieces, from, to)?;
+            self.part(segment.pieces.as_slice(), segment.start, segment.to)?;
             self.writer.environment.leave(before);
         }
         Ok(())
     }
 
     // Writes a line.
-    fn whole(&mut self, pieces: &'a [LinePiece]) -> Expanding<()> {
-        let mut at = 0usize;
-        let mut next = 0usize;
-        for (number, piece) in pieces.iter().enumerate() {
-            if number < next {
-                continue;
+    fn whole(&mut self, segments: &'a [Segment]) -> Expanding<()> {
+        for segment in segments {
+            if segment.from < segment.start {
+                self.from = segment.from;
             }
-            self.copy(at, piece.from)?;
-            self.piece(piece)?;
-            if let Meant::Repeat(ranges, start, count) = &piece.meant {
-                next = number.saturating_add(1).saturating_add(*count);
-                let inner = pieces.get(number.saturating_add(1)..next).unwrap_or(&[]);
-                self.repeat(ranges.as_slice(), inner, *start, piece.to)?;
+            if segment.ranges.is_empty() {
+                self.part(segment.pieces.as_slice(), segment.start, segment.to)?;
+            } else {
+                self.repeat(segment)?;
             }
-            at = piece.to;
         }
-        self.copy(at, self.line.len())
+        Ok(())
     }
 
     /// Writes a line for each member of the ranges.
     pub(crate) fn render(&mut self) -> Expanding<()> {
-        let pieces = self.pieces;
-        let ranges = pieces.ranges.as_slice();
+        let tree = self.tree;
+        let ranges = tree.ranges.as_slice();
         let tuples = self.copies(ranges)?;
         for values in &tuples {
             let environment = &mut self.writer.environment;
             let before = environment.enter_all(ranges, values.as_slice())?;
-            self.whole(pieces.pieces.as_slice())?;
+            self.whole(tree.segments.as_slice())?;
             self.writer.environment.leave(before);
             let present = Vec::new(self.alloc());
             self.lines

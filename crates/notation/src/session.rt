@@ -21,8 +21,8 @@ pub struct ExpandedProgram {
     pub program: Program,
 }
 
-// The fault of an expansion that is not what the text means: a fault of the expander, and of no text.
-fn disagreement(alloc: Global) -> NotationError
+/// The fault of an expansion that is not what the text means: a fault of the expander, and of no text.
+pub(crate) fn disagreement(alloc: Global) -> NotationError
     ensures { (bytes : ℕ) → IsInside bytes result }
 {
     NotationError::Bad(Fault::new(Problem::Disagreement, 0, Vec::new(alloc)))

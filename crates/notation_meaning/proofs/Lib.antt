@@ -7,4 +7,5 @@ mod AgreementFamilies
 mod AgreementCommands
 mod AgreementParts
 mod AgreementPrograms
+mod LineLemmas
 mod MeaningRows

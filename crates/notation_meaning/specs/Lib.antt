@@ -4,3 +4,5 @@ pub mod PlainExpressions
 pub mod ModelFamilies
 pub mod ModelPrograms
 pub mod AgreementViews
+pub mod CommandLines
+pub mod LineViews

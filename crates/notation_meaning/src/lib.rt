@@ -4,12 +4,17 @@
 #![tactic(auto)]
 
 mod agreement;
+mod command_line;
 mod commands;
 mod difference;
 mod families;
 mod items;
+mod lines;
 mod names;
+mod pieces;
 mod plain;
+mod played;
+mod predicates;
 mod programs;
 mod scopes;
 mod setting;
@@ -19,3 +24,6 @@ mod variables;
 mod written;
 
 pub use agreement::agrees;
+pub use command_line::{CommandLine, LinePiece, Meant, Reading, Segment};
+pub use lines::stands_for;
+pub use played::PlayedModel;

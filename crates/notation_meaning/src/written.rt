@@ -53,8 +53,8 @@ pub(crate) fn is_written(value: ConstantValue, tree: &Expr) -> Expanding<()>
     }
 }
 
-// The plain name of a reference.
-fn plain_name(
+/// The plain name of a reference.
+pub(crate) fn plain_name(
     known: &Known<'_>,
     scope: &PlaceScope<'_>,
     reference: &Reference,

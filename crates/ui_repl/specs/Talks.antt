@@ -16,7 +16,9 @@ use Rattle.shell_serve.specs.Sources.{Given}
 use Rattle.shell_serve.specs.Sessions.{SaysAll, WritesBy}
 use Rattle.proc_tree.specs.Programs.{program_of}
 use Rattle.notation_tree.specs.declared.model.ParsedModel.{ParsedModel}
+use Rattle.notation_programs.specs.Expansions.{model_of, plain_of}
 use Rattle.notation_meaning.specs.ModelPrograms.{ProgramOf}
+use Rattle.notation.specs.declared.session.ExpandedProgram.{ExpandedProgram}
 use Rattle.ui_session.specs.Dialogues.{interactive, IsExplanation}
 use Rattle.ui_session.specs.Named.{showing}
 use Rattle.ui_repl.specs.declared.written_program.WrittenProgram.{WrittenProgram}
@@ -40,7 +42,7 @@ IsReadAs text true P = (tree : ParsedModel) × ProgramOf tree P
 
 -- a session whose program is in the model notation, or is not, is one of such a program
 abbrev pub IsProgramOf : WrittenProgram → Program → Type 0
-IsProgramOf written P = (text : List ℕ) × IsReadAs text (is_some written.expansion) P
+IsProgramOf written P = (text : List ℕ) × IsReadAs text (is_some written.expanded) P
 
 -- The output of a session of the program of some text for some lines, and then this text. The replies of one in the model notation are
 -- shown with the names that its author gave.
@@ -67,6 +69,11 @@ abbrev pub Opens : (Input → Type 0) → Seen → Opening → Seen → Type 0
 Opens IsInput old (Session written session) new =
     IsInput session.input × (new ≡ old) × IsProgramOf written (program_of session.program)
 Opens IsInput old (Refused told) new = Talks old told new × (source_after told ≡ Fine)
+
+-- the plain text of a model reads as its program, which the tree of the model means
+abbrev pub IsExpansion : ExpandedProgram → Type 0
+IsExpansion expanded =
+    Reads (plain_of expanded.expansion) (program_of expanded.program) × ProgramOf (model_of expanded.expansion) (program_of expanded.program)
 
 -- what a text was read as: a program, or none
 abbrev pub IsText : ReadText → Type 0

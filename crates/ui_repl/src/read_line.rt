@@ -148,8 +148,8 @@ impl<'a> ReadLine<'a> {
         alloc: Global,
         program: &'a WrittenProgram,
     ) -> Result<ReadLine<'a>, AllocError> {
-        let expander = match program.expansion() {
-            Some(expansion) => Some(LineExpander::new(alloc, expansion)?),
+        let expander = match program.expanded() {
+            Some(expanded) => Some(LineExpander::new(alloc, expanded)?),
             None => None,
         };
         Ok(ReadLine {

@@ -1,7 +1,7 @@
 //! Programs as their authors write them.
 
 ghost use Rattle.std.specs.Prelude.{◌≡◌, IfOk, IfErr, is_some};
-ghost use Rattle.ui_repl.specs.Talks.{IsText};
+ghost use Rattle.ui_repl.specs.Talks.{IsExpansion, IsText};
 ghost use Rattle.shell_print.specs.declared.outcome.ServeFault.TheVariants.{Memory};
 
 use crate::fault_places::FaultPlace;
@@ -22,7 +22,7 @@ use ui_text::{DeclaredAs, Notes, Part, ProgramText, command_offsets, find_declar
 #[derive(Drop)]
 pub struct WrittenProgram {
     text: ProgramText,
-    expansion: Option<Expansion>,
+    expanded: Option<ExpandedProgram>,
 }
 
 /// What a text is.
@@ -85,6 +85,28 @@ fn text_of(
     Ok(written)
 }
 
+// Reads the plain text of a model, once more: a session plays a program of its own.
+fn read_model(alloc: Global, text: &[u8], expanded: ExpandedProgram) -> Result<ReadText, ServeFault>
+    requires { IsExpansion expanded }
+    ensures text { IfOk result IsText }
+    ensures fault { IfErr result (λ fault. fault ≡ Memory) }
+{
+    match parse_program(alloc, expanded.expansion.plain()) {
+        Ok(program) => {
+            let written = WrittenProgram {
+                text: text_of(alloc, text, Some(&expanded.expansion), &program)?,
+                expanded: Some(expanded),
+            };
+            Ok(ReadText::Program(written, program))
+        }
+        Err(ProgError::Memory) => Err(ServeFault::Memory),
+        Err(ProgError::Bad(found)) => {
+            let fault = expanded.expansion.fault(alloc, &found)?;
+            Ok(ReadText::Wrong(fault))
+        }
+    }
+}
+
 /// Reads a program text. A program of the process language is never expanded.
 pub fn read_text(alloc: Global, text: &[u8]) -> Result<ReadText, ServeFault>
     ensures text { IfOk result IsText }
@@ -94,7 +116,7 @@ pub fn read_text(alloc: Global, text: &[u8]) -> Result<ReadText, ServeFault>
         Ok(program) => {
             let written = WrittenProgram {
                 text: text_of(alloc, text, None, &program)?,
-                expansion: None,
+                expanded: None,
             };
             return Ok(ReadText::Program(written, program));
         }
@@ -102,13 +124,7 @@ pub fn read_text(alloc: Global, text: &[u8]) -> Result<ReadText, ServeFault>
         Err(ProgError::Bad(_)) => {}
     }
     match expand_program(alloc, text) {
-        Ok(ExpandedProgram { expansion, program }) => {
-            let written = WrittenProgram {
-                text: text_of(alloc, text, Some(&expansion), &program)?,
-                expansion: Some(expansion),
-            };
-            Ok(ReadText::Program(written, program))
-        }
+        Ok(expanded) => read_model(alloc, text, expanded),
         Err(NotationError::Bad(fault)) => Ok(ReadText::Wrong(fault)),
         Err(NotationError::Memory) => Err(ServeFault::Memory),
     }
@@ -128,16 +144,24 @@ fn usual_for(line: &[u8]) -> Option<&'static str> {
 }
 
 impl WrittenProgram {
+    /// The expansion, and its program, if the program is in the notation.
+    pub(crate) fn expanded(&self) -> Option<&ExpandedProgram> {
+        self.expanded.as_ref()
+    }
+
     /// The expansion, if the program is in the notation.
     pub(crate) fn expansion(&self) -> Option<&Expansion> {
-        self.expansion.as_ref()
+        match &self.expanded {
+            Some(expanded) => Some(&expanded.expansion),
+            None => None,
+        }
     }
 
     /// How the replies of a session of this program are shown.
     pub fn replies(&self) -> NamedReplies<'_>
-        ensures { is_some result.text ≡ is_some self.now.expansion }
+        ensures { is_some result.text ≡ is_some self.now.expanded }
     {
-        match &self.expansion {
+        match &self.expanded {
             Some(_) => NamedReplies::of(Some(&self.text)),
             None => NamedReplies::of(None),
         }
