@@ -3,13 +3,13 @@ use Rattle.std.specs.Prelude.{◌≡◌, ℕ, List, [], ◌∷◌, length, map, 
 use Rattle.std.specs.Bool.{MatchBool}
 use Rattle.dbg_base.specs.declared.limits.TheConstants.{LINE_BYTES}
 use Rattle.proc_tree.specs.Programs.{program_of}
-use Rattle.notation_meaning.specs.AgreementViews.{constants_of}
-use Rattle.notation_meaning.specs.CommandLines.{Played, StandsFor}
-use Rattle.notation_meaning.specs.LineViews.{copy_of}
+use Rattle.notation_meaning.specs.AgreementViews.{constants_of, copy_of}
+use Rattle.notation_meaning.specs.ModelPrograms.{Played}
+use Rattle.notation_meaning.specs.CommandLines.{StandsFor}
 use Rattle.notation_meaning.specs.declared.command_line.CommandLine.{CommandLine}
 use Rattle.notation.specs.declared.session.ExpandedProgram.{ExpandedProgram}
 
--- what lines refer to
+-- a model, what is known of its constants and processes, and its plain program
 abbrev pub played_in : ExpandedProgram → Played
 played_in expanded = record {
   model = expanded.expansion.model;

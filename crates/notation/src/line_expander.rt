@@ -3,7 +3,7 @@
 ghost use Rattle.std.specs.Prelude.{◌≡◌, [], ◌∷◌, length, IfOk, IfErr};
 ghost use Rattle.notation_tree.specs.Places.{IsInside};
 ghost use Rattle.notation_meaning.specs.CommandLines.{StandsFor};
-ghost use Rattle.notation_meaning.specs.LineViews.{lines_of, played_of};
+ghost use Rattle.notation_meaning.specs.LineViews.{lines_of};
 ghost use Rattle.notation.specs.Lines.{played_in, IsExpanded};
 
 use crate::divider::Divider;
@@ -11,7 +11,7 @@ use crate::rendering::Renderer;
 use crate::session::{ExpandedProgram, disagreement};
 use dbg_base::Name;
 use dbg_base::limits::LINE_BYTES;
-use notation_meaning::{CommandLine, PlayedModel, stands_for};
+use notation_meaning::{CommandLine, stands_for};
 use notation_programs::expansion::{failed, failed_in};
 use notation_tree::fault::{Expanding, ExpansionStop, NotationError};
 use notation_tree::lexer::tokens;
@@ -93,20 +93,6 @@ impl<'a> LineExpander<'a> {
         self.divider(line, tokens.as_slice()).line(line.len())
     }
 
-    // What lines refer to.
-    fn played(&self) -> PlayedModel<'a>
-        ensures { played_of result ≡ played_in self.now.expanded.now }
-    {
-        let expansion = &self.expanded.expansion;
-        PlayedModel {
-            alloc: self.alloc,
-            model: &expansion.model,
-            constants: expansion.built.constants.as_slice(),
-            copies: expansion.built.processes.as_slice(),
-            program: &self.expanded.program,
-        }
-    }
-
     /// How many bytes of a line are before its command, if ranges of a `for` are. 0 if none are, or one has a fault.
     pub fn head(&self, line: &[u8]) -> Result<usize, AllocError> {
         let tokens = tokens(self.alloc, line)?;
@@ -144,7 +130,8 @@ impl<'a> LineExpander<'a> {
         ensures same { self.new.expanded ≡ self.old.expanded }
     {
         let lines = self.render(line, tree)?;
-        if stands_for(&self.played(), line, tree, lines.as_slice())? {
+        let played = self.expanded.played(self.alloc);
+        if stands_for(&played, line, tree, lines.as_slice())? {
             Ok(lines)
         } else {
             Err(disagreement(self.alloc))

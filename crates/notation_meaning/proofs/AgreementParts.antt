@@ -18,7 +18,7 @@ use Rattle.notation_meaning.specs.ModelScopes.{Context, Scope, Member}
 use Rattle.notation_meaning.specs.ModelValues.{HasValue}
 use Rattle.notation_meaning.specs.ModelFamilies.{IsIndexed}
 use Rattle.notation_meaning.specs.ModelPrograms.{Variable, VariablesOf, no_variables, more_variables, Frame, Progress, ItemOf, ItemsOf, no_items, more_items}
-use Rattle.notation_meaning.specs.ModelPrograms.{CopiesOf, no_copies, more_copies, ModelProgress, ProcessOf, ProcessesOf, no_processes, more_processes}
+use Rattle.notation_meaning.specs.ModelPrograms.{Copy, CopiesOf, no_copies, more_copies, ModelProgress, ProcessOf, ProcessesOf, no_processes, more_processes}
 use Rattle.notation_meaning.specs.ModelPrograms.{DeclarationOf, DeclarationsOf, no_declarations, more_declarations}
 use Rattle.notation_tree.specs.ComputedValues.{value_of}
 use Rattle.notation_meaning.specs.AgreementViews.{constants_of, place_of, places_of, members_of}
@@ -87,39 +87,48 @@ pub copies_done : (F : Frame) (s : Scope) (b : Binder) (nodes : List ItemNode) (
 copies_done F s b nodes members rest start now go e = go now (rw (nil_from_length rest e) no_copies)
 
 -- the processes that are left belong after those so far
-abbrev pub ProcessesGo : List Definition → List (List ℕ) → ProcessNode → Scope → List FamilyPlace → ModelProgress → ModelProgress
+abbrev pub ProcessesGo : List Definition → List (List ℕ) → ℕ → ProcessNode → Scope → List FamilyPlace → ModelProgress → ModelProgress
     → List FamilyPlace → Type 0
-ProcessesGo D names node s places start now rest =
-    (after : ModelProgress) → ProcessesOf D names node (places_of s rest) now after → ProcessesOf D names node (places_of s places) start after
+ProcessesGo D names n node s places start now rest =
+    (after : ModelProgress) → ProcessesOf D names n node (places_of s rest) now after
+    → ProcessesOf D names n node (places_of s places) start after
 
-pub processes_step : (D : List Definition) (names : List (List ℕ)) (node : ProcessNode) (s : Scope) (places rest others : List FamilyPlace)
-    (p : FamilyPlace) (start now next : ModelProgress) (q : tree.Process) → ProcessesGo D names node s places start now rest
-    → rest ≡ p ∷ others → ProcessOf D names node (place_of s (members_of p)) now.constants next.constants q
-    → next.processes ≡ now.processes ++ (q ∷ []) → ProcessesGo D names node s places start next others
-processes_step D names node s places rest others p start now next q go e one more after rule =
-    let left : ProcessesOf D names node (places_of s others)
-    (record { constants = next.constants; processes = now.processes ++ (q ∷ []) }) after =
-    subst (λ z. ProcessesOf D names node (places_of s others) (record { constants = next.constants; processes = z }) after) more rule in
-    let step : ProcessesOf D names node (places_of s (p ∷ others)) now after = more_processes one left in
-    go after (subst (λ ps. ProcessesOf D names node (places_of s ps) now after) (sym e) step)
+pub processes_step : (D : List Definition) (names : List (List ℕ)) (n : ℕ) (node : ProcessNode) (s : Scope)
+    (places rest others : List FamilyPlace) (p : FamilyPlace) (start now next : ModelProgress) (q : tree.Process) (copy : Copy)
+    → ProcessesGo D names n node s places start now rest → rest ≡ p ∷ others
+    → ProcessOf D names n node (place_of s (members_of p)) now.constants next.constants q copy
+    → next.processes ≡ now.processes ++ (q ∷ []) → next.copies ≡ now.copies ++ (copy ∷ [])
+    → ProcessesGo D names n node s places start next others
+processes_step D names n node s places rest others p start now next q copy go e one more known after rule =
+    let left : ProcessesOf D names n node (places_of s others)
+    (record { constants = next.constants; processes = now.processes ++ (q ∷ []); copies = now.copies ++ (copy ∷ []) }) after =
+    subst
+    (λ z. ProcessesOf D names n node (places_of s others)
+    (record { constants = next.constants; processes = z; copies = now.copies ++ (copy ∷ []) }) after) more
+    (subst
+    (λ z. ProcessesOf D names n node (places_of s others) (record { constants = next.constants; processes = next.processes; copies = z }) after)
+    known rule) in
+    let step : ProcessesOf D names n node (places_of s (p ∷ others)) now after = more_processes one left in
+    go after (subst (λ ps. ProcessesOf D names n node (places_of s ps) now after) (sym e) step)
 
-pub processes_done : (D : List Definition) (names : List (List ℕ)) (node : ProcessNode) (s : Scope) (places rest : List FamilyPlace)
-    (start now : ModelProgress) → ProcessesGo D names node s places start now rest → length rest ≡ 0
-    → ProcessesOf D names node (places_of s places) start now
-processes_done D names node s places rest start now go e = go now (rw (nil_from_length rest e) no_processes)
+pub processes_done : (D : List Definition) (names : List (List ℕ)) (n : ℕ) (node : ProcessNode) (s : Scope) (places rest : List FamilyPlace)
+    (start now : ModelProgress) → ProcessesGo D names n node s places start now rest → length rest ≡ 0
+    → ProcessesOf D names n node (places_of s places) start now
+processes_done D names n node s places rest start now go e = go now (rw (nil_from_length rest e) no_processes)
 
--- the declarations that are left belong after those so far
-abbrev pub DeclarationsGo : List Definition → List (List ℕ) → List DeclarationNode → ModelProgress → ModelProgress → List DeclarationNode
-    → Type 0
-DeclarationsGo D names nodes start now rest =
-    (after : ModelProgress) → DeclarationsOf D names rest now after → DeclarationsOf D names nodes start after
+-- the declarations that are left, from the one of a number on, belong after those so far
+abbrev pub DeclarationsGo : List Definition → List (List ℕ) → List DeclarationNode → ModelProgress → ModelProgress → ℕ
+    → List DeclarationNode → Type 0
+DeclarationsGo D names nodes start now n rest =
+    (after : ModelProgress) → DeclarationsOf D names n rest now after → DeclarationsOf D names 0 nodes start after
 
 pub declarations_step : (D : List Definition) (names : List (List ℕ)) (nodes rest others : List DeclarationNode) (node : DeclarationNode)
-    (start now next : ModelProgress) → DeclarationsGo D names nodes start now rest → rest ≡ node ∷ others
-    → DeclarationOf D names node now next → DeclarationsGo D names nodes start next others
-declarations_step D names nodes rest others node start now next go e one after rule =
-    go after (subst (λ z. DeclarationsOf D names z now after) (sym e) (more_declarations one rule))
+    (start now next : ModelProgress) (n m : ℕ) → DeclarationsGo D names nodes start now n rest → rest ≡ node ∷ others
+    → DeclarationOf D names n node now next → m ≡ suc n → DeclarationsGo D names nodes start next m others
+declarations_step D names nodes rest others node start now next n m go e one more after rule =
+    let left : DeclarationsOf D names (suc n) others next after = subst (λ z. DeclarationsOf D names z others next after) more rule in
+    go after (subst (λ z. DeclarationsOf D names n z now after) (sym e) (more_declarations one left))
 
-pub declarations_done : (D : List Definition) (names : List (List ℕ)) (nodes rest : List DeclarationNode) (start now : ModelProgress)
-    → DeclarationsGo D names nodes start now rest → length rest ≡ 0 → DeclarationsOf D names nodes start now
-declarations_done D names nodes rest start now go e = go now (rw (nil_from_length rest e) no_declarations)
+pub declarations_done : (D : List Definition) (names : List (List ℕ)) (nodes rest : List DeclarationNode) (start now : ModelProgress) (n : ℕ)
+    → DeclarationsGo D names nodes start now n rest → length rest ≡ 0 → DeclarationsOf D names 0 nodes start now
+declarations_done D names nodes rest start now n go e = go now (rw (nil_from_length rest e) no_declarations)

@@ -9,3 +9,4 @@ mod AgreementParts
 mod AgreementPrograms
 mod LineLemmas
 mod MeaningRows
+mod LineRows

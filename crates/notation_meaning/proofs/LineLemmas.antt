@@ -1,5 +1,5 @@
 -- Plain lines, one piece, one place and one segment after another.
-use Rattle.std.proofs.Common.{◌≡◌, ℕ, suc, ◌+◌, ◌-◌, ℤ, Bool, true, false, List, [], ◌∷◌, ◌++◌, length, map, take, drop, refl, sym, ap, ◌∙◌, subst, Some, None, arith}
+use Rattle.std.proofs.Common.{◌≡◌, ℕ, suc, ◌+◌, ℤ, true, false, List, [], ◌∷◌, ◌++◌, length, take, refl, sym, ap, ◌∙◌, subst, Some, None, arith}
 use Rattle.std.specs.Prelude.{codes, slice_get, pos, decimal, Option}
 use Rattle.std.specs.Str.{bytes_eq}
 use Rattle.std.proofs.lemmas.List.{nil_from_length, take_all, length-map}
@@ -21,18 +21,19 @@ use Rattle.notation_meaning.specs.declared.command_line.Reading.{Reading}
 use Rattle.notation_meaning.specs.declared.command_line.Segment.{Segment}
 use Rattle.notation_meaning.specs.declared.families.FamilyPlace.{FamilyPlace}
 use Rattle.notation_meaning.specs.declared.scopes.MemberHere.{MemberHere}
-use Rattle.notation_meaning.specs.ModelScopes.{Constants, Context, Scope, Member, Top}
+use Rattle.notation_meaning.specs.ModelScopes.{Constants, Context, Scope, Top}
 use Rattle.notation_meaning.specs.ModelValues.{HasValue}
 use Rattle.dbg_base.specs.Evaluation.{Num}
-use Rattle.notation_meaning.specs.CommandLines.{Played, Output, bracketed, IsLabel, no_brackets, more_brackets, Replaces, replaced, begun, copied}
+use Rattle.notation_meaning.specs.CommandLines.{Output, IsLabel, no_brackets, more_brackets, Replaces, replaced, begun, copied}
 use Rattle.notation_meaning.specs.CommandLines.{LabelAt, IsPredicate}
 use Rattle.notation_meaning.specs.CommandLines as line
 use Rattle.notation_meaning.specs.CommandLines.{PiecesOf, no_pieces, more_pieces, CopiesOf, no_copies, more_copies, line_context, family_scope}
 use Rattle.notation_meaning.specs.CommandLines.{SegmentsOf, no_segments, more_segments, LinesOf, no_lines, more_lines, nothing_written}
 use Rattle.notation_meaning.specs.ModelFamilies.{Place, place_in, PlacesOf}
+use Rattle.notation_meaning.specs.ModelPrograms.{Played, bracketed}
 use Rattle.notation_meaning.specs.PlainExpressions.{Means}
-use Rattle.notation_meaning.specs.LineViews.{texts_of, lines_of}
-use Rattle.notation_meaning.specs.AgreementViews.{IsNamed, place_of, places_of, members_of, with_members}
+use Rattle.notation_meaning.specs.LineViews.{lines_of}
+use Rattle.notation_meaning.specs.AgreementViews.{IsNamed, texts_of, place_of, places_of, members_of, with_members}
 use Rattle.notation_meaning.proofs.AgreementFamilies.{members_more}
 use Rattle.notation_meaning.proofs.AgreementParts.{take_next}
 

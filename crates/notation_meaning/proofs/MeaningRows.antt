@@ -27,7 +27,7 @@ use Rattle.notation_meaning.specs.PlainExpressions.{Setting, IsWritten, HasName,
 use Rattle.notation_meaning.specs.ModelFamilies as f
 use Rattle.notation_meaning.specs.ModelFamilies.{Place, place_in, PlacesOf, IsIndexed}
 use Rattle.notation_meaning.specs.ModelPrograms as m
-use Rattle.notation_meaning.specs.ModelPrograms.{Frame, Progress, ItemOf, ItemsOf, CopiesOf, CommandOf, setting_in, with_constant}
+use Rattle.notation_meaning.specs.ModelPrograms.{Frame, Progress, ItemOf, ItemsOf, CopiesOf, CommandOf, setting_in, label_in, with_constant}
 
 -- values of expressions without others in them
 module _ (D : List Definition) (e : Expression) where
@@ -215,7 +215,11 @@ module _ (F : Frame) (s : Scope) (b : Binder) (node : ItemNode) (k : CommandNode
   copies_row : CommandOf (setting_in F q.constants) (Member (out-Binder b).member (pos 1) s) k first
       → CommandOf (setting_in F q.constants) (Member (out-Binder b).member (pos 2) s) k second
       → CopiesOf F s b (node ∷ []) (pos 1 ∷ pos 2 ∷ []) q
-      (record q { commands = (q.commands ++ (first ∷ [])) ++ (second ∷ []) })
+      (record q {
+        commands = (q.commands ++ (first ∷ [])) ++ (second ∷ []);
+        labels = (q.labels ++ (label_in F.family (Member (out-Binder b).member (pos 1) s) k.label ∷ []))
+            ++ (label_in F.family (Member (out-Binder b).member (pos 2) s) k.label ∷ []);
+      })
   copies_row h1 h2 =
       m.more_copies (m.more_items (m.command_item k is h1) m.no_items)
       (m.more_copies (m.more_items (m.command_item k is h2) m.no_items) m.no_copies)
@@ -227,10 +231,10 @@ module _ (F : Frame) (s : Scope) (b : Binder) (node : ItemNode) (k : CommandNode
 -- after `const c = 3;`, where `c` has the number 0, its value is 3
 constant_item_row : (F : Frame) (node : ItemNode) (c : Constant) → out-ItemNode node ≡ item.Constant c → c.number ≡ 0
     → out-Expression c.value ≡ form.Number 0 (pos 3)
-    → ItemOf F Top node (record { constants = None ∷ []; variables = []; commands = [] })
-    (record { constants = Some (Num (pos 3)) ∷ []; variables = []; commands = [] })
+    → ItemOf F Top node (record { constants = None ∷ []; variables = []; commands = []; labels = [] })
+    (record { constants = Some (Num (pos 3)) ∷ []; variables = []; commands = []; labels = [] })
 constant_item_row F node c is n value =
     subst
-    (λ k. ItemOf F Top node (record { constants = None ∷ []; variables = []; commands = [] })
-    (record { constants = with_constant (None ∷ []) k (Num (pos 3)); variables = []; commands = [] })) n
+    (λ k. ItemOf F Top node (record { constants = None ∷ []; variables = []; commands = []; labels = [] })
+    (record { constants = with_constant (None ∷ []) k (Num (pos 3)); variables = []; commands = []; labels = [] })) n
     (m.constant_item c is (v.simple (v.number value)))

@@ -5,6 +5,9 @@ use Rattle.dbg_base.specs.Trees.{Process, process_of, names_of}
 use Rattle.proc_tree.specs.Programs.{program_of}
 use Rattle.notation_tree.specs.declared.arithmetic.ConstantValue.{ConstantValue}
 use Rattle.notation_tree.specs.ComputedValues.{value_of}
+use Rattle.notation_programs.specs.declared.building.ProcessCopy.{ProcessCopy}
+use Rattle.notation_programs.specs.declared.building.CommandOrigin.{CommandOrigin}
+use Rattle.notation_meaning.specs.declared.played.PlayedModel.{PlayedModel}
 use Rattle.notation_meaning.specs.declared.scopes.MemberHere.{MemberHere}
 use Rattle.notation_meaning.specs.declared.scopes.PlaceScope as code
 use Rattle.notation_meaning.specs.declared.scopes.PlaceScope.TheVariants as codes
@@ -19,7 +22,7 @@ use Rattle.notation_tree.specs.declared.syntax.Reference.{Reference, out-Referen
 use Rattle.notation_meaning.specs.ModelScopes.{Constants, Context, Scope, Top, Member, Call}
 use Rattle.notation_meaning.specs.ModelFamilies.{Place}
 use Rattle.notation_meaning.specs.PlainExpressions.{Setting, HasName}
-use Rattle.notation_meaning.specs.ModelPrograms.{Frame, Progress, ModelProgress}
+use Rattle.notation_meaning.specs.ModelPrograms.{Copy, Played, Frame, Progress, ModelProgress}
 
 -- the values of constants
 abbrev pub constants_of : List (Option ConstantValue) → Constants
@@ -74,6 +77,28 @@ setting_of code = record {
   variables = map (λ variable. variable.0) (process_of (program_of code.program.now) code.own.0).variables;
 }
 
+-- the labels of commands
+abbrev pub texts_of : List CommandOrigin → List (List ℕ)
+texts_of = map (λ command. command.label.items)
+
+-- what is known of a process
+abbrev pub copy_of : ProcessCopy → Copy
+copy_of copy = record {
+  declaration = copy.declaration;
+  members = copy.members.items;
+  constants = constants_of copy.constants.items;
+  labels = texts_of copy.commands.items;
+}
+
+-- a model, what is known of it, and a plain program
+abbrev pub played_of : PlayedModel → Played
+played_of played = record {
+  model = played.model.now;
+  constants = constants_of played.constants.now;
+  copies = map copy_of played.copies.now;
+  program = program_of played.program.now;
+}
+
 -- the process that is compared
 abbrev pub own_process : ProcessHere → Process
 own_process here = process_of (program_of here.model.program.now) here.own.0
@@ -82,21 +107,24 @@ own_process here = process_of (program_of here.model.program.now) here.own.0
 abbrev pub frame_of : ProcessHere → Frame
 frame_of here = record {
   definitions = here.model.definitions.now;
+  family = here.family;
   processes = names_of (program_of here.model.program.now);
   variables = map (λ variable. variable.0) (own_process here).variables;
 }
 
--- what the items so far mean: the first variables and commands of the process
+-- what the items so far mean: the first variables and commands of the process, and their labels
 abbrev pub progress_of : ProcessHere → PlainProgress → Progress
 progress_of here progress = record {
   constants = constants_of progress.constants.items;
   variables = take progress.variables (own_process here).variables;
   commands = take progress.commands (own_process here).commands;
+  labels = take progress.commands (texts_of here.copy.now.commands.items);
 }
 
--- what the declarations so far mean: the first processes of the program
+-- what the declarations so far mean: the first processes of the program, and what is known of them
 abbrev pub model_progress_of : ModelHere → ProgramProgress → ModelProgress
 model_progress_of here progress = record {
   constants = constants_of progress.constants.items;
   processes = take progress.processes (program_of here.program.now);
+  copies = take progress.processes (map copy_of here.copies.now);
 }

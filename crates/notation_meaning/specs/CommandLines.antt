@@ -1,15 +1,13 @@
 -- Which plain lines a command line of a model stands for.
 use Rattle.std.specs.Prelude.{◌≡◌, ℕ, ◌+◌, ◌-◌, ◌==◌, ℤ, pos, List, [], ◌∷◌, ◌++◌, map, length, take, drop, Bool, false, if◌then◌else◌}
 use Rattle.std.specs.Prelude.{Option, Some, None, slice_get, decimal, codes}
-use Rattle.std.specs.Fmt.{signed_decimal}
 use Rattle.std.specs.declared.alloc.Global.{Global}
 use Rattle.std.specs.declared.vec.Vec.{Vec}
 use Rattle.dbg_base.specs.Checks.{ReadsPredicate}
 use Rattle.dbg_base.specs.CommandLines.{predicate_prefix}
 use Rattle.dbg_base.specs.Evaluation.{Num}
 use Rattle.dbg_base.specs.Names.{place_of}
-use Rattle.dbg_base.specs.Trees.{Tree, Program, names_of, process_of}
-use Rattle.notation_tree.specs.declared.model.ParsedModel.{ParsedModel}
+use Rattle.dbg_base.specs.Trees.{Tree, names_of, process_of}
 use Rattle.notation_tree.specs.declared.syntax.Binder.{Binder, out-Binder}
 use Rattle.notation_tree.specs.declared.syntax.DeclarationNode.TheVariants as declaration
 use Rattle.notation_tree.specs.declared.syntax.Expression.{Expression}
@@ -24,29 +22,12 @@ use Rattle.notation_meaning.specs.declared.command_line.Segment.{Segment}
 use Rattle.notation_meaning.specs.ModelScopes.{Constants, Context, Scope, Top, Member}
 use Rattle.notation_meaning.specs.ModelValues.{HasValue}
 use Rattle.notation_meaning.specs.ModelFamilies.{Place, place_in, PlacesOf}
+use Rattle.notation_meaning.specs.ModelPrograms.{Copy, Played, bracketed}
 use Rattle.notation_meaning.specs.PlainExpressions.{Setting, HasName, Means}
 
--- what is known of a process of the plain program: the number of its declaration, the values of the members of its family and of its own
--- constants, and the labels of its commands, empty for a command that has none
-pub record Copy : Type 0 where
-  pub declaration : ℕ
-  pub members : List ℤ
-  pub constants : Constants
-  pub labels : List (List ℕ)
-
--- what lines refer to: the model, the values of its constants, its processes, and the plain program
-pub record Played : Type 0 where
-  pub model : ParsedModel
-  pub constants : Constants
-  pub copies : List Copy
-  pub program : Program
-
+-- what expressions of a line refer to
 abbrev pub line_context : Played → Context
 line_context L = record { definitions = L.model.tables.definitions.items; constants = L.constants }
-
--- a name with one more index in brackets
-abbrev pub bracketed : List ℕ → ℤ → List ℕ
-bracketed name z = name ++ (91 ∷ signed_decimal z ++ 93 ∷ [])
 
 -- a name with indices is this label
 pub data IsLabel (K : Context) (s : Scope) : List ℕ → List Expression → List ℕ → Type 0 where

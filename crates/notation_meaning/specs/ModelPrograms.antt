@@ -1,5 +1,6 @@
 -- Which plain program a model means.
-use Rattle.std.specs.Prelude.{◌≡◌, ℕ, ℤ, List, [], ◌∷◌, ◌++◌, map, Some, None, slice_set, replicate}
+use Rattle.std.specs.Prelude.{◌≡◌, ℕ, suc, ℤ, List, [], ◌∷◌, ◌++◌, length, map, take, drop, Option, Some, None, slice_set, replicate}
+use Rattle.std.specs.Fmt.{signed_decimal}
 use Rattle.dbg_base.specs.Evaluation.{Value, Num}
 use Rattle.dbg_base.specs.Trees as tree
 use Rattle.dbg_base.specs.Trees.{Tree, names_of}
@@ -13,12 +14,13 @@ use Rattle.notation_tree.specs.declared.syntax.AssignmentNode.{AssignmentNode}
 use Rattle.notation_tree.specs.declared.syntax.ActionNode.{ActionNode}
 use Rattle.notation_tree.specs.declared.syntax.ActionNode.TheVariants as action
 use Rattle.notation_tree.specs.declared.syntax.CommandNode.{CommandNode}
+use Rattle.notation_tree.specs.declared.syntax.Label.{Label}
 use Rattle.notation_tree.specs.declared.syntax.ItemNode.{ItemNode, out-ItemNode}
 use Rattle.notation_tree.specs.declared.syntax.ItemNode.TheOpen as item
 use Rattle.notation_tree.specs.declared.syntax.ProcessNode.{ProcessNode}
 use Rattle.notation_tree.specs.declared.syntax.DeclarationNode.{DeclarationNode}
 use Rattle.notation_tree.specs.declared.syntax.DeclarationNode.TheVariants as declaration
-use Rattle.notation_meaning.specs.ModelScopes.{Constants, Context, Scope, Top, Member}
+use Rattle.notation_meaning.specs.ModelScopes.{Constants, Context, Scope, Top, Member, Call}
 use Rattle.notation_meaning.specs.ModelValues.{HasValue, HasMembers}
 use Rattle.notation_meaning.specs.ModelFamilies.{Place, place_in, PlacesOf, IsIndexed}
 use Rattle.notation_meaning.specs.PlainExpressions.{Setting, Names, Means}
@@ -27,10 +29,45 @@ use Rattle.notation_meaning.specs.PlainExpressions.{Setting, Names, Means}
 abbrev pub Variable : Type 0
 Variable = List ℕ × ℤ
 
--- what is the same for all items of a process: the definitions of the model, the names of all processes and those of the variables of the
--- process
+-- what is known of a process of the plain program: the number of its declaration, the values of the members of its family and of its own
+-- constants, and the labels of its commands, empty for a command that has none
+pub record Copy : Type 0 where
+  pub declaration : ℕ
+  pub members : List ℤ
+  pub constants : Constants
+  pub labels : List (List ℕ)
+
+-- a model, the values of its constants, what is known of its processes, and a plain program
+pub record Played : Type 0 where
+  pub model : ParsedModel
+  pub constants : Constants
+  pub copies : List Copy
+  pub program : tree.Program
+
+-- a name with one more index in brackets, and with indices
+abbrev pub bracketed : List ℕ → ℤ → List ℕ
+bracketed name z = name ++ (91 ∷ signed_decimal z ++ 93 ∷ [])
+
+abbrev pub with_brackets : List ℕ → List ℤ → List ℕ
+with_brackets name [] = name
+with_brackets name (z ∷ indices) = with_brackets (bracketed name z) indices
+
+-- the values of the members of a scope, the outermost first
+abbrev pub values_in : Scope → List ℤ
+values_in Top = []
+values_in (Member number value outer) = values_in outer ++ (value ∷ [])
+values_in (Call first arguments outer) = values_in outer
+
+-- the label of a command: its indices are the values of the members of each `for` around it, which come after those of its family
+abbrev pub label_in : ℕ → Scope → Option Label → List ℕ
+label_in family s None = []
+label_in family s (Some label) = with_brackets label.name (drop family (values_in s))
+
+-- what is the same for all items of a process: the definitions of the model, how many members its family has, the names of all processes and
+-- those of the variables of the process
 pub record Frame : Type 0 where
   pub definitions : List Definition
+  pub family : ℕ
   pub processes : List (List ℕ)
   pub variables : List (List ℕ)
 
@@ -46,11 +83,12 @@ setting_in frame constants = record {
 abbrev pub with_constant : Constants → ℕ → Value → Constants
 with_constant constants number value = slice_set constants number (Some value)
 
--- what the items so far mean: the constants, and the variables and commands of the plain process
+-- what the items so far mean: the constants, and the variables and commands of the plain process, with the labels of these
 pub record Progress : Type 0 where
   pub constants : Constants
   pub variables : List Variable
   pub commands : List tree.Command
+  pub labels : List (List ℕ)
 
 -- the variables of a family, one for each of these places, after those so far
 pub data VariablesOf (K : Context) (node : VariableNode) : List Place → List Variable → List Variable → Type 0 where
@@ -90,7 +128,8 @@ mutual
         → out-ItemNode node ≡ item.Variable v → PlacesOf (setting_in F q.constants).context (place_in s ∷ []) v.ranges.items places
         → VariablesOf (setting_in F q.constants).context v places q.variables vs → ItemOf F s node q (record q { variables = vs })
     command_item : {s : Scope} {node : ItemNode} {c : tree.Command} {q : Progress} (k : CommandNode) → out-ItemNode node ≡ item.Command k
-        → CommandOf (setting_in F q.constants) s k c → ItemOf F s node q (record q { commands = q.commands ++ (c ∷ []) })
+        → CommandOf (setting_in F q.constants) s k c
+        → ItemOf F s node q (record q { commands = q.commands ++ (c ∷ []); labels = q.labels ++ (label_in F.family s k.label ∷ []) })
     repeated_items : {s : Scope} {node : ItemNode} {ms : List ℤ} {q r : Progress} (b : Binder) (inner : _)
         → out-ItemNode node ≡ item.Repeat b inner → HasMembers (setting_in F q.constants).context s b ms
         → CopiesOf F s b inner.items ms q r → ItemOf F s node q r
@@ -107,44 +146,52 @@ mutual
     more_copies : {s : Scope} {b : Binder} {nodes : List ItemNode} {m : ℤ} {ms : List ℤ} {q r t : Progress}
         → ItemsOf F (Member (out-Binder b).member m s) nodes q r → CopiesOf F s b nodes ms r t → CopiesOf F s b nodes (m ∷ ms) q t
 
--- what the declarations so far mean: the constants, and the processes of the plain program
+-- what the declarations so far mean: the constants, the processes of the plain program, and what is known of them
 pub record ModelProgress : Type 0 where
   pub constants : Constants
   pub processes : tree.Program
+  pub copies : List Copy
 
--- the process at a place of its family, in a program with these names of processes; after it the constants have the values `later`
-pub record ProcessOf (D : List Definition) (names : List (List ℕ)) (node : ProcessNode) (place : Place) (constants later : Constants)
-    (p : tree.Process) : Type 0 where
+-- The process at a place of its family, in a program with these names of processes, which the declaration of a number makes, and what is known
+-- of it. After it the constants have the values `later`.
+pub record ProcessOf (D : List Definition) (names : List (List ℕ)) (n : ℕ) (node : ProcessNode) (place : Place) (constants later : Constants)
+    (p : tree.Process) (copy : Copy) : Type 0 where
   pub name : IsIndexed node.name place.indices p.name
-  pub items : ItemsOf (record { definitions = D; processes = names; variables = map (λ v. v.0) p.variables }) place.scope node.items.items
-      (record { constants = constants; variables = []; commands = [] })
-      (record { constants = later; variables = p.variables; commands = p.commands })
+  pub items : ItemsOf
+      (record { definitions = D; family = length place.indices; processes = names; variables = map (λ v. v.0) p.variables })
+      place.scope node.items.items (record { constants = constants; variables = []; commands = []; labels = [] })
+      (record { constants = later; variables = p.variables; commands = p.commands; labels = copy.labels })
+  pub declared : copy.declaration ≡ n
+  pub members : copy.members ≡ place.indices
+  pub own : copy.constants ≡ take node.constants (drop node.first_constant later)
 
 -- the processes of a family, one for each of these places, after those so far
-pub data ProcessesOf (D : List Definition) (names : List (List ℕ)) (node : ProcessNode) : List Place → ModelProgress → ModelProgress → Type 0 where
-  no_processes : {q : ModelProgress} → ProcessesOf D names node [] q q
-  more_processes : {place : Place} {places : List Place} {later : Constants} {p : tree.Process} {q r : ModelProgress}
-      → ProcessOf D names node place q.constants later p
-      → ProcessesOf D names node places (record { constants = later; processes = q.processes ++ (p ∷ []) }) r
-      → ProcessesOf D names node (place ∷ places) q r
+pub data ProcessesOf (D : List Definition) (names : List (List ℕ)) (n : ℕ) (node : ProcessNode) : List Place → ModelProgress → ModelProgress
+    → Type 0 where
+  no_processes : {q : ModelProgress} → ProcessesOf D names n node [] q q
+  more_processes : {place : Place} {places : List Place} {later : Constants} {p : tree.Process} {copy : Copy} {q r : ModelProgress}
+      → ProcessOf D names n node place q.constants later p copy
+      → ProcessesOf D names n node places
+      (record { constants = later; processes = q.processes ++ (p ∷ []); copies = q.copies ++ (copy ∷ []) }) r
+      → ProcessesOf D names n node (place ∷ places) q r
 
--- what a declaration means, after what the declarations before it mean
-pub data DeclarationOf (D : List Definition) (names : List (List ℕ)) : DeclarationNode → ModelProgress → ModelProgress → Type 0 where
+-- what the declaration of a number means, after what the declarations before it mean
+pub data DeclarationOf (D : List Definition) (names : List (List ℕ)) (n : ℕ) : DeclarationNode → ModelProgress → ModelProgress → Type 0 where
   constant_declared : {c : Constant} {v : Value} {q : ModelProgress}
       → HasValue (record { definitions = D; constants = q.constants }) Top c.value v
-      → DeclarationOf D names (declaration.Constant c) q (record q { constants = with_constant q.constants c.number v })
+      → DeclarationOf D names n (declaration.Constant c) q (record q { constants = with_constant q.constants c.number v })
   process_declared : {node : ProcessNode} {places : List Place} {q r : ModelProgress}
       → PlacesOf (record { definitions = D; constants = q.constants }) (place_in Top ∷ []) node.ranges.items places
-      → ProcessesOf D names node places q r → DeclarationOf D names (declaration.Process node) q r
+      → ProcessesOf D names n node places q r → DeclarationOf D names n (declaration.Process node) q r
 
--- what declarations mean, in order
-pub data DeclarationsOf (D : List Definition) (names : List (List ℕ)) : List DeclarationNode → ModelProgress → ModelProgress → Type 0 where
-  no_declarations : {q : ModelProgress} → DeclarationsOf D names [] q q
-  more_declarations : {node : DeclarationNode} {nodes : List DeclarationNode} {q r t : ModelProgress} → DeclarationOf D names node q r
-      → DeclarationsOf D names nodes r t → DeclarationsOf D names (node ∷ nodes) q t
+-- what declarations mean, in order, from the declaration of a number on
+pub data DeclarationsOf (D : List Definition) (names : List (List ℕ)) : ℕ → List DeclarationNode → ModelProgress → ModelProgress → Type 0 where
+  no_declarations : {n : ℕ} {q : ModelProgress} → DeclarationsOf D names n [] q q
+  more_declarations : {n : ℕ} {node : DeclarationNode} {nodes : List DeclarationNode} {q r t : ModelProgress}
+      → DeclarationOf D names n node q r → DeclarationsOf D names (suc n) nodes r t → DeclarationsOf D names n (node ∷ nodes) q t
 
--- the model means this plain program: its declarations mean the processes, where no constant has a value before
-pub record ProgramOf (model : ParsedModel) (P : tree.Program) : Type 0 where
-  pub constants : Constants
-  pub declarations : DeclarationsOf model.tables.definitions.items (names_of P) model.declarations.items
-      (record { constants = replicate model.tables.constants None; processes = [] }) (record { constants = constants; processes = P })
+-- the model means this plain program, and that is known of its constants and processes: no constant has a value before its declarations
+pub record ProgramOf (L : Played) : Type 0 where
+  pub declarations : DeclarationsOf L.model.tables.definitions.items (names_of L.program) 0 L.model.declarations.items
+      (record { constants = replicate L.model.tables.constants None; processes = []; copies = [] })
+      (record { constants = L.constants; processes = L.program; copies = L.copies })

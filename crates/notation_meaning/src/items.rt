@@ -9,6 +9,7 @@ ghost use Rattle.notation_meaning.specs.AgreementViews.{constants_of, scope_of, 
 
 use crate::commands::is_command;
 use crate::difference::{DEPTH, DIFFERENT, deeper};
+use crate::labels::{check_label, noted_label};
 use crate::scopes::PlaceScope;
 use crate::setting::ProcessHere;
 use crate::values::{members, value};
@@ -72,7 +73,7 @@ fn variable(
     Ok(())
 }
 
-// Compares a command.
+// Compares a command, and its label.
 fn command(
     here: &ProcessHere<'_>,
     scope: &PlaceScope<'_>,
@@ -88,6 +89,8 @@ fn command(
         return Err(DIFFERENT);
     };
     is_command(&setting, scope, node, found, DEPTH)?;
+    let noted = noted_label(here.copy, progress.commands)?;
+    check_label(here.model.alloc, here.family, scope, node.label, noted)?;
     let end = after(progress.commands)?;
     progress.commands = end;
     Ok(())

@@ -6,9 +6,11 @@
 mod agreement;
 mod command_line;
 mod commands;
+mod constants;
 mod difference;
 mod families;
 mod items;
+mod labels;
 mod lines;
 mod names;
 mod pieces;

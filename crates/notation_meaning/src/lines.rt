@@ -5,8 +5,8 @@ ghost use Rattle.notation_meaning.specs.ModelFamilies.{Place, place_in, PlacesOf
 ghost use Rattle.notation_meaning.specs.ModelScopes.{Top};
 ghost use Rattle.notation_meaning.specs.CommandLines.{line_context, Output, between, copied, replaced, begun, nothing_written};
 ghost use Rattle.notation_meaning.specs.CommandLines.{Replaces, PiecesOf, CopiesOf, SegmentsOf, LinesOf, StandsFor};
-ghost use Rattle.notation_meaning.specs.AgreementViews.{scope_of, places_of};
-ghost use Rattle.notation_meaning.specs.LineViews.{played_of, output_of, lines_of};
+ghost use Rattle.notation_meaning.specs.AgreementViews.{scope_of, places_of, played_of};
+ghost use Rattle.notation_meaning.specs.LineViews.{output_of, lines_of};
 
 use crate::command_line::{CommandLine, LinePiece, Meant, Segment};
 use crate::difference::{DEPTH, DIFFERENT};

@@ -3,6 +3,7 @@
 ghost use Rattle.std.specs.Prelude.{◌≡◌, map, pos, Some, IfOk};
 ghost use Rattle.notation_meaning.specs.AgreementViews.{context_of, scope_of};
 ghost use Rattle.notation_meaning.specs.ModelFamilies.{IsIndexed};
+ghost use Rattle.notation_meaning.specs.ModelPrograms.{bracketed};
 ghost use Rattle.notation_meaning.specs.PlainExpressions.{indexed, HasName};
 
 use crate::difference::{DIFFERENT, deeper};
@@ -23,6 +24,18 @@ pub(crate) fn with_index(name: Vec<u8>, index: u64) -> Expanding<Vec<u8>>
     let mut buffer = Buffer::new();
     whole.push(b'_')?;
     whole.extend_from_slice(buffer.format(index).as_bytes())?;
+    Ok(whole)
+}
+
+/// The name with one more index in brackets.
+pub(crate) fn with_brackets(name: Vec<u8>, index: i64) -> Expanding<Vec<u8>>
+    ensures { IfOk result (λ whole. whole.items ≡ bracketed name.items index) }
+{
+    let mut whole = name;
+    let mut buffer = Buffer::new();
+    whole.push(b'[')?;
+    whole.extend_from_slice(buffer.format(index).as_bytes())?;
+    whole.push(b']')?;
     Ok(whole)
 }
 

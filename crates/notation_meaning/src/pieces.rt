@@ -5,15 +5,14 @@ ghost use Rattle.std.specs.Str.{bytes_eq};
 ghost use Rattle.dbg_base.specs.Evaluation.{Num};
 ghost use Rattle.dbg_base.specs.Names.{place_of};
 ghost use Rattle.dbg_base.specs.Trees.{names_of};
-ghost use Rattle.notation_meaning.specs.AgreementViews.{IsNamed, context_of, scope_of};
-ghost use Rattle.notation_meaning.specs.CommandLines.{bracketed, line_context, labels_of, labels_at, IsLabel, LabelAt, Replaces};
-ghost use Rattle.notation_meaning.specs.LineViews.{played_of, texts_of};
+ghost use Rattle.notation_meaning.specs.AgreementViews.{IsNamed, context_of, scope_of, played_of, texts_of};
+ghost use Rattle.notation_meaning.specs.CommandLines.{line_context, labels_of, labels_at, IsLabel, LabelAt, Replaces};
 ghost use Rattle.notation_meaning.specs.ModelValues.{HasValue};
 ghost use Rattle.notation_meaning.specs.declared.command_line.Meant.TheVariants as meant;
 
 use crate::command_line::{Meant, Reading};
 use crate::difference::{DEPTH, DIFFERENT, deeper};
-use crate::names::index_of;
+use crate::names::{index_of, with_brackets};
 use crate::played::PlayedModel;
 use crate::predicates::{check_predicate, predicate_length};
 use crate::scopes::PlaceScope;
@@ -26,18 +25,6 @@ use notation_programs::building::CommandOrigin;
 use notation_tree::fault::Expanding;
 use notation_tree::syntax::{Expression, Reference};
 use std::alloc::Global;
-
-// The name with one more index in brackets.
-fn with_brackets(name: Vec<u8>, index: i64) -> Expanding<Vec<u8>>
-    ensures { IfOk result (λ whole. whole.items ≡ bracketed name.items index) }
-{
-    let mut whole = name;
-    let mut buffer = Buffer::new();
-    whole.push(b'[')?;
-    whole.extend_from_slice(buffer.format(index).as_bytes())?;
-    whole.push(b']')?;
-    Ok(whole)
-}
 
 // The label that a name with these indices is.
 fn labelled(

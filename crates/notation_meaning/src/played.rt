@@ -1,9 +1,8 @@
-//! What command lines of a model refer to.
+//! A model, and what is written for it.
 
 ghost use Rattle.std.specs.Prelude.{◌≡◌, slice_get, Some, IfSome};
-ghost use Rattle.notation_meaning.specs.AgreementViews.{context_of};
 ghost use Rattle.notation_meaning.specs.CommandLines.{line_context};
-ghost use Rattle.notation_meaning.specs.LineViews.{played_of, copy_of};
+ghost use Rattle.notation_meaning.specs.AgreementViews.{context_of, played_of, copy_of};
 
 use crate::setting::Known;
 use dbg_base::Pid;

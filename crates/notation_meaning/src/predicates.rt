@@ -7,9 +7,8 @@ ghost use Rattle.dbg_base.specs.Names.{place_of};
 ghost use Rattle.dbg_base.specs.Trees.{Tree, names_of};
 ghost use Rattle.proc_tree.specs.Programs.{program_of};
 ghost use Rattle.notation_tree.specs.declared.syntax.DeclarationNode.TheVariants as declaration;
-ghost use Rattle.notation_meaning.specs.AgreementViews.{constants_of, scope_of, setting_of, with_members};
+ghost use Rattle.notation_meaning.specs.AgreementViews.{constants_of, scope_of, setting_of, played_of, with_members};
 ghost use Rattle.notation_meaning.specs.CommandLines.{chosen, family_scope, own_constants, SaysOf, IsPredicate};
-ghost use Rattle.notation_meaning.specs.LineViews.{played_of};
 ghost use Rattle.notation_meaning.specs.ModelScopes.{Scope};
 ghost use Rattle.notation_meaning.specs.PlainExpressions.{Means};
 

@@ -1,10 +1,13 @@
 //! What names mean at a place of a model: a list of scopes, each within the next, which are never changed.
 
-ghost use Rattle.std.specs.Prelude.{◌≡◌, MatchOption, Some, None};
+ghost use Rattle.std.specs.Prelude.{◌≡◌, ◌++◌, map, IfOk, MatchOption, Some, None};
 ghost use Rattle.notation_meaning.specs.ModelScopes.{member_in, argument_in};
+ghost use Rattle.notation_meaning.specs.ModelPrograms.{values_in};
 ghost use Rattle.notation_meaning.specs.AgreementViews.{scope_of, last_value};
 
+use notation_tree::fault::Expanding;
 use notation_tree::syntax::Expression;
+use std::alloc::Global;
 
 /// A member of a range, by its number, and its value.
 #[derive(Clone, Copy)]
@@ -53,6 +56,36 @@ pub(crate) fn member(scope: &PlaceScope<'_>, number: usize) -> Option<i64>
             }
         }
         PlaceScope::Call(_, _, outer) => member(outer, number),
+    }
+}
+
+// Appends the values of members.
+fn put_values(found: &mut Vec<i64>, members: &[MemberHere]) -> Expanding<()>
+    ensures { IfOk result (λ _. found.new.items ≡ found.old.items ++ map (λ m. m.value) members.now) }
+{
+    for member in members {
+        found.push(member.value)?;
+    }
+    Ok(())
+}
+
+/// The values of the members of a scope, the outermost first.
+pub(crate) fn values(alloc: Global, scope: &PlaceScope<'_>) -> Expanding<Vec<i64>>
+    ensures { IfOk result (λ found. found.items ≡ values_in (scope_of scope.now)) }
+{
+    match scope {
+        PlaceScope::Top => Ok(Vec::new(alloc)),
+        PlaceScope::Members(members, outer) => {
+            let mut found = values(alloc, outer)?;
+            put_values(&mut found, members)?;
+            Ok(found)
+        }
+        PlaceScope::Member(_, value, outer) => {
+            let mut found = values(alloc, outer)?;
+            found.push(*value)?;
+            Ok(found)
+        }
+        PlaceScope::Call(_, _, outer) => values(alloc, outer),
     }
 }
 

@@ -6,25 +6,31 @@ ghost use Rattle.notation_meaning.specs.AgreementViews.{context_of};
 
 use crate::difference::DIFFERENT;
 use dbg_base::Pid;
+use notation_programs::building::ProcessCopy;
 use notation_tree::arithmetic::ConstantValue;
 use notation_tree::fault::Expanding;
 use notation_tree::syntax::{Definition, Expression};
 use proc_tree::Program;
 use std::alloc::Global;
 
-/// What is the same for all declarations: the definitions of the model, and the plain program. Memory comes from `alloc`.
+/// What is the same for all declarations: the definitions of the model, what is known of its processes, and the plain program. Memory comes
+/// from `alloc`.
 #[derive(Clone, Copy)]
 pub(crate) struct ModelHere<'a> {
     pub(crate) alloc: Global,
     pub(crate) definitions: &'a [Definition],
+    pub(crate) copies: &'a [ProcessCopy],
     pub(crate) program: &'a Program,
 }
 
-/// What is the same for all items of a process: that, and the number of the process in the plain program.
+/// What is the same for all items of a process: that, the number of the process in the plain program, how many members its family has, and
+/// what is known of it.
 #[derive(Clone, Copy)]
 pub(crate) struct ProcessHere<'a> {
     pub(crate) model: ModelHere<'a>,
     pub(crate) own: Pid,
+    pub(crate) family: usize,
+    pub(crate) copy: &'a ProcessCopy,
 }
 
 /// What is the same for all expressions at a place: the definitions of the model, and the values of its constants so far, by their numbers.

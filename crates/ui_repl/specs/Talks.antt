@@ -15,9 +15,9 @@ use Rattle.shell_serve.specs.declared.framing.Input.{Input}
 use Rattle.shell_serve.specs.Sources.{Given}
 use Rattle.shell_serve.specs.Sessions.{SaysAll, WritesBy}
 use Rattle.proc_tree.specs.Programs.{program_of}
-use Rattle.notation_tree.specs.declared.model.ParsedModel.{ParsedModel}
-use Rattle.notation_programs.specs.Expansions.{model_of, plain_of}
-use Rattle.notation_meaning.specs.ModelPrograms.{ProgramOf}
+use Rattle.notation_programs.specs.Expansions.{plain_of}
+use Rattle.notation_meaning.specs.ModelPrograms.{Played, ProgramOf}
+use Rattle.notation.specs.Lines.{played_in}
 use Rattle.notation.specs.declared.session.ExpandedProgram.{ExpandedProgram}
 use Rattle.ui_session.specs.Dialogues.{interactive, IsExplanation}
 use Rattle.ui_session.specs.Named.{showing}
@@ -38,7 +38,7 @@ IsRefusal out = (due reported : List ℕ) × IsFaultText due × IsExplanation re
 -- The program that a text is read as: a text of the process language, or one in the model notation, which is read as a tree.
 abbrev pub IsReadAs : List ℕ → Bool → Program → Type 0
 IsReadAs text false P = Reads text P
-IsReadAs text true P = (tree : ParsedModel) × ProgramOf tree P
+IsReadAs text true P = (played : Played) × (played.program ≡ P) × ProgramOf played
 
 -- a session whose program is in the model notation, or is not, is one of such a program
 abbrev pub IsProgramOf : WrittenProgram → Program → Type 0
@@ -73,7 +73,7 @@ Opens IsInput old (Refused told) new = Talks old told new × (source_after told 
 -- the plain text of a model reads as its program, which the tree of the model means
 abbrev pub IsExpansion : ExpandedProgram → Type 0
 IsExpansion expanded =
-    Reads (plain_of expanded.expansion) (program_of expanded.program) × ProgramOf (model_of expanded.expansion) (program_of expanded.program)
+    Reads (plain_of expanded.expansion) (program_of expanded.program) × ProgramOf (played_in expanded)
 
 -- what a text was read as: a program, or none
 abbrev pub IsText : ReadText → Type 0

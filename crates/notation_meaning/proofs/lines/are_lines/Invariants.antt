@@ -1,5 +1,6 @@
 use Rattle.std.proofs.Common.{length}
-use Rattle.notation_meaning.specs.LineViews.{played_of, lines_of}
+use Rattle.notation_meaning.specs.AgreementViews.{played_of}
+use Rattle.notation_meaning.specs.LineViews.{lines_of}
 use Rattle.notation_meaning.proofs.LineLemmas.{LinesGo}
 use Rattle.notation_meaning.proofs.lines.are_lines.Given as goal
 

@@ -1,6 +1,6 @@
 use Rattle.std.proofs.Common.{length}
-use Rattle.notation_meaning.specs.AgreementViews.{scope_of}
-use Rattle.notation_meaning.specs.LineViews.{played_of, output_of}
+use Rattle.notation_meaning.specs.AgreementViews.{scope_of, played_of}
+use Rattle.notation_meaning.specs.LineViews.{output_of}
 use Rattle.notation_meaning.proofs.LineLemmas.{SegmentsGo}
 use Rattle.notation_meaning.proofs.lines.segments.Given as goal
 

@@ -1,6 +1,6 @@
 use Rattle.std.proofs.Common.{◌≡◌, ◌+◌, length}
 use Rattle.dbg_base.specs.Names.{place_of, place_from}
-use Rattle.notation_meaning.specs.LineViews.{texts_of}
+use Rattle.notation_meaning.specs.AgreementViews.{texts_of}
 use Rattle.notation_meaning.proofs.pieces.place_among.Given as goal
 
 abbrev pub invariant-loop-first : goal.invariant-loop-first

@@ -1,6 +1,5 @@
 use Rattle.std.proofs.Common.{◌∙◌, ap}
-use Rattle.notation_meaning.specs.AgreementViews.{constants_of, scope_of, with_members}
-use Rattle.notation_meaning.specs.LineViews.{copy_of}
+use Rattle.notation_meaning.specs.AgreementViews.{constants_of, copy_of, scope_of, with_members}
 use Rattle.notation_meaning.proofs.LineLemmas.{means_there}
 use Rattle.notation_meaning.proofs.Outcomes.{on_ok}
 use Rattle.notation_meaning.proofs.predicates.check_process.Goals as goal

@@ -1,5 +1,4 @@
 use Rattle.std.proofs.Common.{subst}
-use Rattle.proc_lang.specs.Answering.{Accepts}
 use Rattle.notation_meaning.specs.AgreementViews.{scope_of, setting_of}
 use Rattle.notation_meaning.specs.PlainExpressions.{Means}
 use Rattle.notation_meaning.proofs.Outcomes.{on_ok}

@@ -9,7 +9,7 @@ use Rattle.notation_meaning.proofs.programs.family.Given as goal
 -- the processes that are left belong after those so far
 abbrev pub invariant-loop-place : goal.invariant-loop-place
 invariant-loop-place l =
-    ProcessesGo l.here.definitions.now (names_of (program_of l.here.program.now)) l.node Top l.places
+    ProcessesGo l.here.definitions.now (names_of (program_of l.here.program.now)) l.declaration l.node Top l.places
     (model_progress_of l.here l.initial.progress) (model_progress_of l.here l.progress) l.rest
 
 abbrev pub decreases-loop-place : goal.decreases-loop-place
