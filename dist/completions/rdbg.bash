@@ -32,7 +32,7 @@ _rdbg() {
         ;;
       talk) choices='--color --log --no-rlwrap --help' ;;
       test) choices='--fill --tap --help' ;;
-      draw) choices='--as --at --at-halt --last --only --width --theme --help' ;;
+      draw) choices='--as --at --at-halt --whole --last --only --width --theme --help' ;;
       *) choices='--help' ;;
     esac
   fi

@@ -24,6 +24,7 @@ complete -c rdbg -n '__fish_seen_subcommand_from test' -l tap -d 'Print the resu
 complete -c rdbg -n '__fish_seen_subcommand_from draw' -l as -x -a 'text svg html shiviz mermaid' -d 'The form of the picture'
 complete -c rdbg -n '__fish_seen_subcommand_from draw' -l at -x -d 'The state after this line'
 complete -c rdbg -n '__fish_seen_subcommand_from draw' -l at-halt -d 'The state at the first halt'
+complete -c rdbg -n '__fish_seen_subcommand_from draw' -l whole -d 'The whole session at the halt'
 complete -c rdbg -n '__fish_seen_subcommand_from draw' -l last -x -d 'Draws at most the last N events'
 complete -c rdbg -n '__fish_seen_subcommand_from draw' -l only -x -d 'Draws only these processes, their names separated by commas'
 complete -c rdbg -n '__fish_seen_subcommand_from draw' -l theme -x -a 'auto light dark' -d 'The colours of an svg picture'

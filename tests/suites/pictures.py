@@ -13,6 +13,7 @@ import sys
 from harness import TOP, Fault, sessions, temporary_folder
 from harness.drawing import Drawing
 from harness.explanations import talked_lines
+from harness.lanes import lanes_problems
 from harness.log import log_problems
 from harness.page_data import FinalState, data_text, read_page
 from harness.random_sessions import random_session
@@ -84,10 +85,22 @@ def drawing_problem(suite, file):
     return "\n".join(problems)
 
 
+def at_halt(suite, file, *options):
+    """The drawing of a session at its first halt, or None."""
+    ran = suite.rdbg("draw", "--as", "svg", "--at-halt", *options, short_name(file))
+    return None if ran.status == 1 and ran.errors == b"error: no breakpoint halts the session\n" else ran
+
+
 def halt_problem(suite, file):
-    """What is wrong with the drawing of a session at its first halt, if it has one."""
-    ran = suite.rdbg("draw", "--as", "svg", "--at-halt", file)
-    if ran.status == 1 and ran.errors == b"error: no breakpoint halts the session\n":
+    """What is wrong with the picture of the first halt of a session, if it has one: compared with a model of the session."""
+    ran = at_halt(suite, file)
+    return "\n".join(lanes_problems(ran.output, Session(suite, file))) if ran else ""
+
+
+def whole_problem(suite, file):
+    """What is wrong with the drawing of a whole session at its first halt, if it has one."""
+    ran = at_halt(suite, file, "--whole")
+    if not ran:
         return ""
     drawing = Drawing(ran.output)
     halting = [cut for cut in drawing.cuts() if "halts" in drawing.kinds(cut)]
@@ -207,6 +220,9 @@ def run(suite):
     for file in sessions("tests/pictures"):
         for form in FORMS:
             check_golden(suite, file.with_suffix(f".{form}"), form, file)
+        halt = at_halt(suite, file)
+        if halt:
+            suite.golden(file.with_suffix(".halt.svg"), halt.output)
     check_page_of_documents(suite)
     with temporary_folder() as room:
         suite.attempt("a drawing of many events", joined_problems, long_drawing_problem, suite, room)
@@ -221,5 +237,6 @@ def run(suite):
             suite.attempt(f"{short_name(file)} as mermaid", mermaid_problem, suite, file)
             suite.attempt(f"{short_name(file)} as a log", log_problem, suite, file)
             suite.attempt(f"the drawing of {short_name(file)}", drawing_problem, suite, file)
-            suite.attempt(f"the drawing of {short_name(file)} at its first halt", halt_problem, suite, file)
+            suite.attempt(f"the picture of the first halt of {short_name(file)}", halt_problem, suite, file)
+            suite.attempt(f"the drawing of {short_name(file)} at its first halt", whole_problem, suite, file)
             suite.attempt(f"the drawing of two processes of {short_name(file)}", selection_problem, suite, file)

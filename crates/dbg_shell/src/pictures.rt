@@ -21,6 +21,7 @@ enum DrawOption {
     As,
     At,
     AtHalt,
+    Whole,
     Width,
     Last,
     Only,
@@ -28,10 +29,11 @@ enum DrawOption {
 }
 
 // In the order of the help.
-static OPTIONS: [DrawOption; 7] = [
+static OPTIONS: [DrawOption; 8] = [
     DrawOption::As,
     DrawOption::At,
     DrawOption::AtHalt,
+    DrawOption::Whole,
     DrawOption::Width,
     DrawOption::Last,
     DrawOption::Only,
@@ -92,12 +94,15 @@ fn theme<'a>(alloc: Global) -> Arg<'a> {
 
 // The option, as it is described in the help.
 fn described<'a>(alloc: Global, option: DrawOption) -> Result<Arg<'a>, AllocError> {
-    let halt = "Draws the state at the first halt, in place of the end";
+    let halt =
+        "Draws the state at the first halt, in place of the end; as svg its earliest state alone";
+    let whole = "With --at-halt: draws the whole session also as svg";
     let only = "Draws only these processes, their names separated by commas";
     match option {
         DrawOption::As => Ok(form(alloc)),
         DrawOption::At => line(alloc),
         DrawOption::AtHalt => Ok(flag(alloc, "at-halt", halt)),
+        DrawOption::Whole => Ok(flag(alloc, "whole", whole)),
         DrawOption::Width => Ok(width(alloc)),
         DrawOption::Last => Ok(last(alloc)),
         DrawOption::Only => Ok(valued(alloc, "only", "P,Q", only)),
@@ -166,6 +171,9 @@ fn conflict(matches: &ArgMatches<'_>, form: PictureForm, moment: Moment) -> Opti
     if form != PictureForm::Text && matches.get_one::<u32>("width").is_some() {
         return Some("only a text picture has a width: '--width' cannot be used with another form");
     }
+    if moment != Moment::Halt && matches.get_flag("whole") {
+        return Some("a picture is whole unless it is one of a halt: '--whole' needs '--at-halt'");
+    }
     let has_all_events = matches!(form, PictureForm::Html | PictureForm::Shiviz);
     if has_all_events && matches.get_one::<u32>("last").is_some() {
         return Some(
@@ -193,10 +201,13 @@ pub(crate) fn named_picture<'a>(
     if let Some(why) = conflict(matches, form, moment) {
         return Err(command.error(ErrorKind::ArgumentConflict, why)?);
     }
+    let only = matches.get_str("only");
+    let has_selection = only.is_some() || matches.get_one::<u32>("last").is_some();
     Ok(Picture {
         form,
         moment,
-        only: matches.get_str("only"),
+        only,
+        is_whole: has_selection || matches.get_flag("whole"),
         width: matches.get_one::<u32>("width").unwrap_or(WIDTH),
         last: matches.get_one::<u32>("last").unwrap_or(usual_last(form)),
         theme: named_theme(matches.get_str("theme")),

@@ -35,6 +35,8 @@ pub struct Picture<'a> {
     pub moment: Moment,
     /// The names of the processes that are shown, separated by commas, if not all are.
     pub only: Option<&'a str>,
+    /// Whether a picture of a halt shows the whole session, and not the cut alone.
+    pub is_whole: bool,
     /// How many characters wide a diagram of characters is.
     pub width: u32,
     /// At most this many events are shown, the last ones.

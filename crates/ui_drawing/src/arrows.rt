@@ -4,9 +4,9 @@ use crate::labels::EventWords;
 use crate::layout::{FALL, Layout};
 use crate::shapes::{Point, Stroke};
 use crate::sheet::{Scene, SvgSheet};
-use crate::svg::{end_text, escaped, put_ends, say_text};
+use crate::svg::{end_text, put_ends, say_text};
 use std::alloc::AllocError;
-use ui_text::{Notes, Part};
+use ui_text::{Notes, Part, as_markup};
 use ui_timeline::{ShownEvent, bytes_of};
 
 // From the middle of an event to its arrow.
@@ -151,7 +151,7 @@ impl SvgSheet<'_> {
             return Ok(());
         };
         say_text(notes, "value", middle)?;
-        let words = escaped(self.scene.alloc, bytes_of(words))?;
+        let words = as_markup(self.scene.alloc, bytes_of(words))?;
         notes.add_with("{}", &[Part::Bytes(words.as_slice())])?;
         end_text(notes)
     }

@@ -3,10 +3,10 @@
 use crate::layout::{FALL, Layout, MARGIN};
 use crate::shapes::Point;
 use crate::sheet::{Scene, SvgSheet};
-use crate::svg::{end_text, escaped, put_ends, put_number, say_text};
+use crate::svg::{end_text, put_ends, put_number, say_text};
 use dbg_base::Pid;
 use std::alloc::AllocError;
-use ui_text::{Notes, Part};
+use ui_text::{Notes, Part, as_markup};
 use ui_timeline::{NamedCut, bytes_of};
 
 // Where cuts begin and end, from the edges of the drawing.
@@ -152,7 +152,7 @@ impl SvgSheet<'_> {
         let x = MARGIN.saturating_add(42);
         say_text(notes, "key", Point { x, y })?;
         let words = self.scene.cut_sentence(cut)?;
-        let words = escaped(self.scene.alloc, words.as_slice())?;
+        let words = as_markup(self.scene.alloc, words.as_slice())?;
         notes.add_with("{}", &[Part::Bytes(words.as_slice())])?;
         end_text(notes)
     }

@@ -4,11 +4,11 @@ use crate::labels::EventWords;
 use crate::shapes::Point;
 use crate::sheet::SvgSheet;
 use crate::spots::WordSpot;
-use crate::svg::{end_text, escaped, say_circle, say_text};
+use crate::svg::{end_text, say_circle, say_text};
 use dbg_base::Pid;
 use event_rows::Event;
 use std::alloc::AllocError;
-use ui_text::{Notes, Part};
+use ui_text::{Notes, Part, as_markup};
 use ui_timeline::{ShownEvent, bytes_of, event_of, halting, put_command, put_joined, put_setting};
 
 // The radius of the mark of an event.
@@ -52,7 +52,7 @@ impl SvgSheet<'_> {
                 put_command(&mut title, scope, command)?;
             }
         }
-        escaped(self.scene.alloc, bytes_of(&title))
+        as_markup(self.scene.alloc, bytes_of(&title))
     }
 
     // Whether an event is outside the cut of the breakpoint that halts the session.
@@ -105,7 +105,7 @@ impl SvgSheet<'_> {
             (true, true) => "words rdbg-end rdbg-halts",
         };
         say_text(notes, class, place.point)?;
-        let label = escaped(self.scene.alloc, words.label.as_slice())?;
+        let label = as_markup(self.scene.alloc, words.label.as_slice())?;
         notes.add_with("{}", &[Part::Bytes(label.as_slice())])?;
         end_text(notes)
     }

@@ -4,15 +4,14 @@ use crate::labels::{width_of, width_of_key};
 use crate::layout::{MARGIN, SENTENCE_ROW};
 use crate::shapes::Point;
 use crate::sheet::SvgSheet;
-use crate::svg::{end_text, escaped, put_ends, put_number, say_text};
+use crate::svg::{end_text, put_ends, put_number, say_text};
 use dbg_base::Pid;
 use std::alloc::AllocError;
-use ui_text::{Notes, Part};
-use ui_timeline::{Theme, bytes_of, halting, put_left_out};
+use ui_text::{Notes, Part, as_markup};
+use ui_timeline::{bytes_of, halting, put_left_out};
 
 // Each class has the prefix, so that a page may have several drawings, and a style of its own.
-static LIGHT: &str = "  <style>
-    .rdbg-drawing text { font: 13px ui-monospace, monospace; fill: #1b1b1b; }
+static LIGHT: &str = "    .rdbg-drawing text { font: 13px ui-monospace, monospace; fill: #1b1b1b; }
     .rdbg-drawing .rdbg-ground { fill: #ffffff; }
     .rdbg-drawing .rdbg-name, .rdbg-drawing .rdbg-heading { font-weight: bold; }
     .rdbg-drawing .rdbg-line { stroke: #8a8a8a; }
@@ -105,7 +104,7 @@ impl SvgSheet<'_> {
     fn say_title(&self, notes: &mut Notes) -> Result<(), AllocError> {
         if let Some(cut) = halting(self.scene.cuts) {
             let heading = cut.heading(self.scene.alloc)?;
-            let words = escaped(self.scene.alloc, bytes_of(&heading))?;
+            let words = as_markup(self.scene.alloc, bytes_of(&heading))?;
             notes.say_with("  <title>{}", &[Part::Bytes(words.as_slice())])?;
             return notes.add("</title>");
         }
@@ -157,21 +156,6 @@ impl SvgSheet<'_> {
         )
     }
 
-    // The colours.
-    fn say_style(&self, notes: &mut Notes) -> Result<(), AllocError> {
-        notes.say(LIGHT)?;
-        match self.theme {
-            Theme::Auto => {
-                notes.say("    @media (prefers-color-scheme: dark) {")?;
-                notes.say(DARK)?;
-                notes.say("    }")?;
-            }
-            Theme::Light => {}
-            Theme::Dark => notes.say(DARK)?,
-        }
-        notes.say("  </style>")
-    }
-
     /// The start of the drawing.
     pub(crate) fn say_head(&self, notes: &mut Notes) -> Result<(), AllocError> {
         let (width, height) = (self.width()?, self.height());
@@ -184,7 +168,7 @@ impl SvgSheet<'_> {
         notes.add(">")?;
         self.say_title(notes)?;
         self.say_description(notes)?;
-        self.say_style(notes)?;
+        self.theme.say_style(notes, LIGHT, DARK)?;
         self.say_marker(notes, "head", "M0 0L8 4L0 8z")?;
         self.say_marker(notes, "open", "M1 1L8 4L1 7")?;
         notes.say("  <rect class=\"rdbg-ground\" width=\"100%\" height=\"100%\"/>")
@@ -220,7 +204,7 @@ impl SvgSheet<'_> {
         let mut y = 20i64;
         for number in 0..self.heading.count() {
             say_text(notes, class, Point { x: MARGIN, y })?;
-            let words = escaped(self.scene.alloc, self.heading.line(number).bytes)?;
+            let words = as_markup(self.scene.alloc, self.heading.line(number).bytes)?;
             notes.add_with("{}", &[Part::Bytes(words.as_slice())])?;
             end_text(notes)?;
             y = y.saturating_add(SENTENCE_ROW);

@@ -52,20 +52,6 @@ pub(crate) fn end_text(notes: &mut Notes) -> Result<(), AllocError> {
     notes.add("</text>")
 }
 
-/// The characters of a text, as an SVG has them.
-pub(crate) fn escaped(alloc: Global, text: &[u8]) -> Result<Vec<u8>, AllocError> {
-    let mut words = Vec::new(alloc);
-    for byte in text {
-        match byte {
-            b'<' => words.extend_from_slice(b"&lt;")?,
-            b'>' => words.extend_from_slice(b"&gt;")?,
-            b'&' => words.extend_from_slice(b"&amp;")?,
-            _ => words.push(*byte)?,
-        }
-    }
-    Ok(words)
-}
-
 /// A text in at most so many characters. If there are more, the last two are dots.
 pub(crate) fn shortened(alloc: Global, text: &[u8], room: usize) -> Result<Vec<u8>, AllocError> {
     if text.len() <= room {

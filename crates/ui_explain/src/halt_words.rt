@@ -13,6 +13,31 @@ const REASONS: usize = 2;
 
 const UNDOS: usize = 2;
 
+/// What the signs are called to which sentences refer: those of a report, or those of a picture.
+#[derive(Clone, Copy)]
+pub(crate) enum Signs {
+    Report,
+    Picture,
+}
+
+impl Signs {
+    // The mark of the event since which a part holds.
+    fn mark(self) -> Part<'static> {
+        Part::Text(match self {
+            Signs::Report => "*",
+            Signs::Picture => "large mark",
+        })
+    }
+
+    // The line of the cut.
+    fn cut(self) -> Part<'static> {
+        Part::Text(match self {
+            Signs::Report => "bar",
+            Signs::Picture => "red line",
+        })
+    }
+}
+
 impl HaltReport<'_> {
     // Whether the event since which a part holds is the last one of its process in the cut, and before none of the other parts' events.
     fn is_concurrent(&self, part: &PartInCut) -> bool {
@@ -38,6 +63,22 @@ impl HaltReport<'_> {
         parts.len() > 1 && parts.iter().all(|part| self.is_concurrent(part))
     }
 
+    /// Appends why this is a state of the session.
+    pub(crate) fn put_why_here(&self, words: &mut Notes, signs: Signs) -> Result<(), AllocError> {
+        let (form, sign) = match (self.are_concurrent(), self.halt.parts.len()) {
+            (true, 2) => (
+                "neither {} comes before the other: both parts can hold at once",
+                signs.mark(),
+            ),
+            (true, _) => (
+                "no {} comes before another: all parts can hold at once",
+                signs.mark(),
+            ),
+            (false, _) => ("no event left of the {} needs one right of it", signs.cut()),
+        };
+        words.add_with(form, &[sign])
+    }
+
     /// Says why this is a state of the session.
     pub(crate) fn tell_why_here(
         &self,
@@ -45,11 +86,7 @@ impl HaltReport<'_> {
         columns: &LaneColumns,
     ) -> Result<(), AllocError> {
         let mut words = new_words(notes)?;
-        words.add(match (self.are_concurrent(), self.halt.parts.len()) {
-            (true, 2) => "neither * comes before the other: both parts can hold at once",
-            (true, _) => "no * comes before another: all parts can hold at once",
-            (false, _) => "no event left of the bar needs one right of it",
-        })?;
+        self.put_why_here(&mut words, Signs::Report)?;
         self.tell_labelled(notes, "why here", columns, &words)
     }
 
@@ -94,6 +131,30 @@ impl HaltReport<'_> {
         Ok(count)
     }
 
+    /// Appends why the session does not halt at a smaller cut, for at most so many parts.
+    pub(crate) fn put_no_earlier(
+        &self,
+        words: &mut Notes,
+        signs: Signs,
+        most: usize,
+    ) -> Result<(), AllocError> {
+        let count = self.put_reasons(words, most)?;
+        let is_at_start = self.halt.parts.iter().all(|part| part.since == 0);
+        if count > most {
+            let more = Part::Count(count.saturating_sub(most));
+            words.add_with("; and so on for {} more", &[more])?;
+        } else if count == 0 && is_at_start {
+            words.add("it holds from the start")?;
+        } else if count == 0 && self.halt.parts.len() == 1 {
+            let form = "its part is false before the {}, and all else comes before the {}";
+            words.add_with(form, &[signs.mark(), signs.mark()])?;
+        } else if count == 0 {
+            let form = "a part is false before its {}, and all else comes before a {}";
+            words.add_with(form, &[signs.mark(), signs.mark()])?;
+        }
+        Ok(())
+    }
+
     /// Says why the session does not halt at a smaller cut.
     pub(crate) fn tell_no_earlier(
         &self,
@@ -102,19 +163,18 @@ impl HaltReport<'_> {
     ) -> Result<(), AllocError> {
         let mut words = new_words(notes)?;
         let most = if self.is_tight() { 1 } else { REASONS };
-        let count = self.put_reasons(&mut words, most)?;
-        let is_at_start = self.halt.parts.iter().all(|part| part.since == 0);
-        if count > most {
-            let more = Part::Count(count.saturating_sub(most));
-            words.add_with("; and so on for {} more", &[more])?;
-        } else if count == 0 && is_at_start {
-            words.add("it holds from the start")?;
-        } else if count == 0 && self.halt.parts.len() == 1 {
-            words.add("its part is false before the *, and all else comes before the *")?;
-        } else if count == 0 {
-            words.add("a part is false before its *, and all else comes before a *")?;
-        }
+        self.put_no_earlier(&mut words, Signs::Report, most)?;
         self.tell_labelled(notes, "no earlier", columns, &words)
+    }
+
+    /// Says why here and why not earlier, in two lines about the signs of a picture.
+    pub(crate) fn tell_sentences(&self, notes: &mut Notes) -> Result<(), AllocError> {
+        notes.say("Why here: ")?;
+        self.put_why_here(notes, Signs::Picture)?;
+        notes.add(".")?;
+        notes.say("Why not earlier: ")?;
+        self.put_no_earlier(notes, Signs::Picture, REASONS)?;
+        notes.add(".")
     }
 
     // How many events of the session are not in the cut.

@@ -244,6 +244,26 @@ impl<'a> HaltReport<'a> {
 }
 
 impl ExplainedSession<'_> {
+    /// Says why a breakpoint halts the session at this cut, and why not earlier, in two lines about the signs of a picture: its large marks, since
+    /// which parts hold, and its line of the cut.
+    pub fn tell_why(
+        &self,
+        notes: &mut Notes,
+        name: Name,
+        detector: &Detector,
+        cut: &Cut,
+        halt: &Halt,
+    ) -> Result<(), AllocError> {
+        HaltReport {
+            session: *self,
+            name,
+            detector,
+            cut,
+            halt,
+        }
+        .tell_sentences(notes)
+    }
+
     /// Reports that a breakpoint halts the session at its cut: its predicate, since when each part holds and which events lead there, the
     /// messages on their way, why here and not earlier, and how to continue.
     pub(crate) fn tell_halt(

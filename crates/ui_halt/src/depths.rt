@@ -42,8 +42,8 @@ impl MarkRow {
         }
     }
 
-    // The number, from 0, of the mark that has this event.
-    fn mark_of(&self, event: u32) -> Option<usize> {
+    /// The number, from 0, of the mark that has this event.
+    pub fn mark_of(&self, event: u32) -> Option<usize> {
         count_up_to(self.starts.as_slice(), event).checked_sub(1)
     }
 

@@ -5,6 +5,7 @@ mod sources;
 use crate::data::PageData;
 use shell_io::Sink;
 use shell_print::{ServeFault, hand_on, write_whole};
+use ui_text::markup_of;
 
 fn write_parts<W: Sink>(parts: &[&str], writer: &mut W) -> Result<(), ServeFault> {
     for part in parts {
@@ -13,22 +14,13 @@ fn write_parts<W: Sink>(parts: &[&str], writer: &mut W) -> Result<(), ServeFault
     Ok(())
 }
 
-// What stands for a byte in the text of a page, unless it is the byte itself.
-fn escaped(byte: u8) -> Option<&'static str> {
-    match byte {
-        b'<' => Some("&lt;"),
-        b'&' => Some("&amp;"),
-        _ => None,
-    }
-}
-
 // Writes a text as the page has it.
 fn write_text<W: Sink>(text: &[u8], writer: &mut W) -> Result<(), ServeFault> {
     let mut from = 0usize;
     for (at, byte) in text.iter().enumerate() {
-        if let Some(escape) = escaped(*byte) {
+        if let Some(sign) = markup_of(*byte) {
             write_whole(writer, text.get(from..at).unwrap_or(&[]))?;
-            write_whole(writer, escape.as_bytes())?;
+            write_whole(writer, sign.as_bytes())?;
             from = at.saturating_add(1);
         }
     }

@@ -1,16 +1,18 @@
 //! A picture of one state of a session.
 
-use dbg_base::{Refusal, Said};
+use crate::halt_picture::{picture_of_halt, shows_cut};
+use dbg_base::{Name, Refusal, Said};
 use dbg_command::SessionView;
 use std::alloc::{AllocError, Global};
+use std::mem;
 use ui_diagram::{Moment, Picture, PictureForm, draw_mermaid, draw_text, write_log};
 use ui_drawing::draw_drawing;
 use ui_text::{Notes, ProgramText};
 use ui_timeline::Selection;
 use ui_view::{SourceView, Told};
 
-// Lines, each with a line end.
-fn with_line_ends(alloc: Global, lines: &Notes) -> Result<Vec<u8>, AllocError> {
+/// Lines, each with a line end.
+pub(crate) fn with_line_ends(alloc: Global, lines: &Notes) -> Result<Vec<u8>, AllocError> {
     let mut text = Vec::new(alloc);
     for number in 0..lines.count() {
         text.extend_from_slice(lines.line(number).bytes)?;
@@ -39,11 +41,11 @@ fn picture_of(
     Ok(with_line_ends(alloc, &notes)?)
 }
 
-// Whether this is said to a command after which a breakpoint halts the session.
-fn is_halt(told: Told<'_>) -> bool {
+// The breakpoint that halts the session after this was said.
+fn halting(told: Told<'_>) -> Option<Name> {
     match told {
-        Told::Said(_, Said::Accepted(reply), _) => reply.halted.is_some(),
-        Told::Said(_, _, _) | Told::Refused(_) => false,
+        Told::Said(_, Said::Accepted(reply), _) => reply.halted,
+        Told::Said(_, _, _) | Told::Refused(_) => None,
     }
 }
 
@@ -82,16 +84,39 @@ impl<'a> Artist<'a> {
         }
     }
 
+    /// The picture, which is empty if there is none. Then there is none.
+    pub(crate) fn take_picture(&mut self, alloc: Global) -> Vec<u8> {
+        match mem::replace(&mut self.picture, None) {
+            Some(picture) => picture,
+            None => Vec::new(alloc),
+        }
+    }
+
     /// Draws this state.
     pub(crate) fn draw(
         &mut self,
         alloc: Global,
         session: SessionView<'_>,
     ) -> Result<(), AllocError> {
-        let text = self.text;
+        let view = SourceView::new(session, self.text);
         // The only refusal is that memory ran out.
-        let picture = picture_of(alloc, self.wanted, SourceView::new(session, text));
+        let picture = picture_of(alloc, self.wanted, view);
         self.picture = Some(picture.ok().ok_or(AllocError)?);
+        Ok(())
+    }
+
+    // Draws this state, in which a breakpoint halts the session.
+    fn draw_halt(
+        &mut self,
+        alloc: Global,
+        session: SessionView<'_>,
+        name: Name,
+    ) -> Result<(), AllocError> {
+        if !shows_cut(self.wanted) {
+            return self.draw(alloc, session);
+        }
+        let view = SourceView::new(session, self.text);
+        self.picture = Some(picture_of_halt(alloc, self.wanted.theme, view, name)?);
         Ok(())
     }
 
@@ -102,10 +127,12 @@ impl<'a> Artist<'a> {
         view: SessionView<'_>,
         told: Told<'_>,
     ) -> Result<(), AllocError> {
-        if self.wanted.moment == Moment::Halt && self.picture.is_none() && is_halt(told) {
-            return self.draw(alloc, view);
+        match halting(told) {
+            Some(name) if self.wanted.moment == Moment::Halt && self.picture.is_none() => {
+                self.draw_halt(alloc, view, name)
+            }
+            _ => Ok(()),
         }
-        Ok(())
     }
 
     /// The session is over.

@@ -91,7 +91,7 @@ fn write_drawing<W: Sink, E: Sink>(
     errors: &mut E,
 ) -> Result<Drawn, ServeFault> {
     match drawer {
-        Drawer::Page(page) => match page.write(writer)? {
+        Drawer::Page(page) => match page.write(alloc, writer)? {
             Ok(()) => {}
             Err(Incomplete::Memory) => return Err(ServeFault::Memory),
             Err(Incomplete::TooLarge) => {

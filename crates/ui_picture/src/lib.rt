@@ -4,6 +4,7 @@
 mod artist;
 mod drawer;
 mod drawing;
+mod halt_picture;
 mod page_drawer;
 
 pub use drawing::{Drawn, draw, draw_status};

@@ -17,6 +17,9 @@ use ui_view::{Explainer, Told};
 // How wide the drawing is that readers without scripts see, in characters.
 const WIDTH: u32 = 100;
 
+// How many characters a line of an explanation has at most. A page wraps it.
+const LINE: usize = 1_000;
+
 // Whether nothing was accepted or answered.
 fn is_refused(told: Told<'_>) -> bool {
     matches!(told, Told::Refused(_) | Told::Said(_, Said::Refused(_), _))
@@ -44,13 +47,14 @@ impl<'a> PageDrawer<'a> {
             form: PictureForm::Text,
             moment: Moment::Halt,
             only: None,
+            is_whole: true,
             width: WIDTH,
             last: ALL_EVENTS,
             theme: wanted.theme,
         };
         PageDrawer {
             recorder: Recorder::new(alloc, program, written.text()),
-            sentences: Sentences::new(alloc, written, WIDTH as usize),
+            sentences: Sentences::new(alloc, written, Some(LINE)),
             artist: Artist::new(drawing, written.text()),
             is_model: written.text().is_model(),
         }
@@ -103,11 +107,13 @@ impl<'a> PageDrawer<'a> {
     /// Writes the page, unless something was not recorded.
     pub(crate) fn write<W: Sink>(
         &mut self,
+        alloc: Global,
         writer: &mut W,
     ) -> Result<Result<(), Incomplete>, ServeFault> {
+        let drawing = self.artist.take_picture(alloc);
         match self.recorder.session() {
             Ok(page) => {
-                write_page(&page, self.artist.picture().unwrap_or(&[]), writer)?;
+                write_page(&page, drawing.as_slice(), writer)?;
                 Ok(Ok(()))
             }
             Err(incomplete) => Ok(Err(incomplete)),

@@ -6,6 +6,7 @@ mod escapes;
 mod faults;
 mod forms;
 mod indices;
+mod markup;
 mod names;
 mod notes;
 mod numbers;
@@ -20,6 +21,7 @@ pub use forms::{
     tell_word, whole_word,
 };
 pub use indices::index_count;
+pub use markup::{as_markup, markup_of};
 pub use names::{Declaration, DeclaredAs, find_declaration};
 pub use notes::{NoteLine, Notes, StyleChange};
 pub use numbers::meaning;

@@ -1,5 +1,8 @@
 //! The colours of a drawing.
 
+use std::alloc::AllocError;
+use ui_text::Notes;
+
 /// Which colours a drawing has.
 #[derive(Clone, Copy, Debug, PartialEq, Eq)]
 pub enum Theme {
@@ -9,4 +12,22 @@ pub enum Theme {
     Light,
     /// Light words on a dark ground.
     Dark,
+}
+
+impl Theme {
+    /// Says a style: these rules, which are for a light ground, and those that differ on a dark one.
+    pub fn say_style(self, notes: &mut Notes, light: &str, dark: &str) -> Result<(), AllocError> {
+        notes.say("  <style>")?;
+        notes.say(light)?;
+        match self {
+            Theme::Auto => {
+                notes.say("    @media (prefers-color-scheme: dark) {")?;
+                notes.say(dark)?;
+                notes.say("    }")?;
+            }
+            Theme::Light => {}
+            Theme::Dark => notes.say(dark)?,
+        }
+        notes.say("  </style>")
+    }
 }
